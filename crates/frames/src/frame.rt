@@ -1,0 +1,41 @@
+// What a frame says: an operation, from one of the two sides.
+use kinds::change::Change;
+use kinds::change::ChangeDebug;
+
+// The document that an operation was made on.
+#[derive(Clone, Copy, Debug, PartialEq, Eq)]
+pub enum Side {
+    Sheet,
+    Table,
+}
+
+// An operation on a document. A remark's text is a part of the frame's bytes.
+#[derive(Clone, Copy, Debug)]
+pub enum Operation<'a> {
+    Keep,
+    Insert {
+        at: usize,
+    },
+    Remark {
+        at: usize,
+        text: &'a [u8],
+    },
+    Delete {
+        at: usize,
+    },
+    Move {
+        from: usize,
+        to: usize,
+    },
+    Change {
+        at: usize,
+        column: u8,
+        change: Change,
+    },
+}
+
+#[derive(Clone, Copy, Debug)]
+pub struct Frame<'a> {
+    pub side: Side,
+    pub operation: Operation<'a>,
+}
