@@ -1,3 +1,5 @@
 mod Digits
 mod Readings
 mod Texts
+mod Bounds
+mod Sayings

@@ -3,6 +3,7 @@ ghost use mathlib.Core.Path.{_≡_};
 ghost use Prim.Native.Nat.{_+_, _^_, _<_, _≤_};
 ghost use lib.ListN.{length, drop};
 ghost use Rattle.frames.specs.Frames.{two-bytes, four-bytes, side, sized, is-printable, printable, remark-in, change-in, alteration-in, edit-in, frame, told, said};
+ghost use Rattle.frames.specs.Laws.{Sound, Sayable};
 ghost use Rattle.kinds.specs.Answers.{test};
 ghost use Rattle.frames.specs.declared.refusal.FrameRefusal.the-variants.{UnprintableText};
 use crate::frame::Frame;
@@ -147,7 +148,9 @@ fn read_operation(side: Side, bytes: &[u8]) -> Result<Operation<'_>, FrameRefusa
 impl Frame<'_> {
     // Reads bytes as a frame. A remark's text is handed out as a part of the bytes.
     pub fn read(bytes: &[u8]) -> Result<Frame<'_>, FrameRefusal>
-        ensures { λ r. ⌜ said r ≡ frame (now (bytes .entry)) ⌝ }
+        ensures says { λ r. ⌜ said r ≡ frame (now (bytes .entry)) ⌝ }
+        ensures sound { λ r. ⌜ Sound (now (bytes .entry)) r ⌝ }
+        ensures sayable { λ _. ⌜ Sayable ⌝ }
     {
         if bytes.len() < 2 {
             return Err(FrameRefusal::WrongLength);
