@@ -18,7 +18,7 @@ use Rattle.frames.specs.declared.line.LogLine.{LogLine}
 use Rattle.frames.specs.declared.line.LogLine.the-variants.{Bytes}
 use Rattle.frames.specs.declared.refusal.LineRefusal.{LineRefusal}
 use Rattle.frames.specs.Lines.{bytes-of, is-skipped, line-bytes, answer, written, Spells, Spelled, Refusals}
-use Rattle.frames.proofs.Digits.{spells-back}
+use Rattle.frames.proofs.Digits.{length-pairs, spelt-is, spells-back}
 
 some-from : {X : Type 0} (o : Option X) → isSome o ≡ true → (x : X) × (o ≡ Some x)
 some-from None e = absurd (let z : _≡_ {A = ℕ} 0 1 = cc in omega arith)
@@ -44,6 +44,9 @@ module _ (line buffer : List ℕ) (short : length line ≤ 80) (kept : is-skippe
 
   pub writes : (after : List ℕ) → after ≡ spelling ++ drop (length spelling) buffer → after ≡ written (line-bytes line (length buffer)) buffer
   writes after is = is ∙ sym (ap (λ o. written o buffer) accepted)
+
+  pub few : (count : ℕ) → count ≡ length spelling → count ≤ 40
+  few count is = omega (arith, ap length (spelt-is line spelling spells), length-pairs line)
 
   pub refusals : (count : ℕ) → Refusals line (length buffer) (Ok (Bytes count))
   refusals count = record {

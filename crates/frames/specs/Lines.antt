@@ -87,6 +87,12 @@ Spelled line buffer (Ok Skipped) = Unit {0}
 Spelled line buffer (Ok (Bytes count)) = Spells line (take count buffer)
 Spelled line buffer (Err e) = Unit {0}
 
+-- A line gives at most 40 bytes.
+abbrev pub Few : Result LogLine LineRefusal → Type 0
+Few (Ok Skipped) = Unit {0}
+Few (Ok (Bytes count)) = count ≤ 40
+Few (Err e) = Unit {0}
+
 -- the answer is a refusal with this number
 abbrev pub Refused : ℕ → Result LogLine LineRefusal → Type 0
 Refused n r = ErrBy r (λ e. line-number e ≡ n)

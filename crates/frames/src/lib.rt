@@ -3,4 +3,4 @@ pub mod frame;
 pub mod line;
 pub mod reading;
 pub mod refusal;
-mod words;
+pub mod words;

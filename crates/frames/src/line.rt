@@ -5,7 +5,7 @@ ghost use Prim.Native.Nat.{ℕ, _*_, _<_, _≤_};
 ghost use lib.ListN.{length, drop};
 ghost use Rattle.std.specs.Options.{isSome, valueOr};
 ghost use Rattle.std.specs.declared.option.Option.the-variants.{Some};
-ghost use Rattle.frames.specs.Lines.{digit, bytes-of, is-skipped, line-bytes, answer, written, Spelled, Refusals};
+ghost use Rattle.frames.specs.Lines.{digit, bytes-of, is-skipped, line-bytes, answer, written, Spelled, Few, Refusals};
 use crate::refusal::LineRefusal;
 
 // The most characters of a line.
@@ -81,6 +81,7 @@ pub fn read_line(line: &[u8], buffer: &mut [u8]) -> Result<LogLine, LineRefusal>
     ensures answers { λ r. ⌜ r ≡ answer (line-bytes (now (line .entry)) (length (now (buffer .entry)))) ⌝ }
     ensures writes { λ _. ⌜ now (buffer .exit) ≡ written (line-bytes (now (line .entry)) (length (now (buffer .entry)))) (now (buffer .entry)) ⌝ }
     ensures refusals { λ r. ⌜ Refusals (now (line .entry)) (length (now (buffer .entry))) r ⌝ }
+    ensures few { λ r. ⌜ Few r ⌝ }
     ensures spelled { λ r. ⌜ Spelled (now (line .entry)) (now (buffer .exit)) r ⌝ }
 {
     if line.len() > LONGEST_LINE {

@@ -34,7 +34,10 @@ pub impl fmt::Display for Change as ChangeDisplay {
             Change::Keep => write!(f, "keep"),
             Change::Add(amount) => write!(f, "add {amount}"),
             Change::Set(choice) => write!(f, "set {choice}"),
-            Change::Mask { mask, bits } => write!(f, "set the bits {bits:04X} of {mask:04X}"),
+            Change::Mask { mask, bits } => write!(
+                f,
+                "set the bits under mask {mask:04X} to {bits:04X}"
+            ),
         }
     }
 }

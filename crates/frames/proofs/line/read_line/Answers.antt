@@ -15,5 +15,6 @@ returns c =
       answers = readings.answers line buffer short kept digits room _ (wrote .0);
       writes = readings.writes line buffer short kept digits room _ (wrote .1);
       refusals = readings.refusals line buffer short kept digits room _;
+      few = readings.few line buffer short kept digits room _ (wrote .0);
       spelled = readings.spelled line buffer short kept digits room _ _ (wrote .0) (wrote .1);
     }
