@@ -2,11 +2,12 @@
 use crate::counts::Counts;
 use crate::counts::CountsDisplay;
 use crate::partial::PartialLine;
+use crate::words::FrameRefusalWords;
+use crate::words::FrameWords;
+use crate::words::LineRefusalWords;
+use crate::words::Words;
 use frames::frame::Frame;
 use frames::line::LogLine;
-use frames::words::FrameDisplay;
-use frames::words::FrameRefusalDisplay;
-use frames::words::LineRefusalDisplay;
 use std::io;
 use std::io::Write;
 
@@ -74,7 +75,8 @@ impl Explainer {
             Err(refusal) => {
                 self.counts.note_refused();
                 let code = refusal.number();
-                writeln!(out, "{number:>7}  refused ({code}): {refusal}")
+                let reason = Words(refusal);
+                writeln!(out, "{number:>7}  refused ({code}): {reason}")
             }
         }
     }
@@ -88,12 +90,14 @@ impl Explainer {
         match Frame::read(bytes) {
             Ok(frame) => {
                 self.counts.note_operation(frame.side);
-                writeln!(out, "{number:>7}  {frame}")
+                let words = Words(frame);
+                writeln!(out, "{number:>7}  {words}")
             }
             Err(refusal) => {
                 self.counts.note_refused();
                 let code = refusal.number();
-                writeln!(out, "{number:>7}  refused ({code}): not a frame, {refusal}")
+                let reason = Words(refusal);
+                writeln!(out, "{number:>7}  refused ({code}): not a frame, {reason}")
             }
         }
     }

@@ -4,6 +4,7 @@ mod explainer;
 mod partial;
 #[cfg(test)]
 mod tests;
+mod words;
 
 use explainer::Explainer;
 use std::io;

@@ -2,7 +2,6 @@
 ghost use Prim.Native.Nat.{_≤_};
 use crate::explainer::Explainer;
 use frames::frame::Frame;
-use frames::refusal::FrameRefusalDebug;
 use std::alloc::Global;
 use std::io;
 use std::test::*;

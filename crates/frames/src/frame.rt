@@ -1,16 +1,15 @@
 // What a frame says: an operation, from one of the two sides.
 use kinds::change::Change;
-use kinds::change::ChangeDebug;
 
 // The document that an operation was made on.
-#[derive(Clone, Copy, Debug, PartialEq, Eq)]
+#[derive(Clone, Copy)]
 pub enum Side {
     Sheet,
     Table,
 }
 
 // An operation on a document. A remark's text is a part of the frame's bytes.
-#[derive(Clone, Copy, Debug)]
+#[derive(Clone, Copy)]
 pub enum Operation<'a> {
     Keep,
     Insert {
@@ -34,7 +33,7 @@ pub enum Operation<'a> {
     },
 }
 
-#[derive(Clone, Copy, Debug)]
+#[derive(Clone, Copy)]
 pub struct Frame<'a> {
     pub side: Side,
     pub operation: Operation<'a>,

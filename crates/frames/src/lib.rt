@@ -3,4 +3,3 @@ pub mod frame;
 pub mod line;
 pub mod reading;
 pub mod refusal;
-pub mod words;

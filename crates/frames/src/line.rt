@@ -15,7 +15,7 @@ const LONGEST_LINE: usize = 80;
 const SHORTEST_BUFFER: usize = 64;
 
 // What a log line is.
-#[derive(Clone, Copy, Debug, PartialEq, Eq)]
+#[derive(Clone, Copy)]
 pub enum LogLine {
     // Empty, or begun by a semicolon.
     Skipped,

@@ -3,7 +3,7 @@ ghost use mathlib.Core.Path.{_≡_};
 ghost use Rattle.frames.specs.Refusals.{line-number, frame-number};
 
 // Why a log line does not give bytes.
-#[derive(Clone, Copy, Debug, PartialEq, Eq)]
+#[derive(Clone, Copy)]
 pub enum LineRefusal {
     // It has more than 80 characters.
     TooLong,
@@ -26,7 +26,7 @@ impl LineRefusal {
 }
 
 // Why bytes are not a frame.
-#[derive(Clone, Copy, Debug, PartialEq, Eq)]
+#[derive(Clone, Copy)]
 pub enum FrameRefusal {
     // Too few or too many bytes for the operation.
     WrongLength,

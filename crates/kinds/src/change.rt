@@ -1,9 +1,8 @@
 // A change of a value.
 ghost use mathlib.Core.Path.{_≡_};
 ghost use Rattle.kinds.specs.Changes.{plain};
-use std::fmt;
 
-#[derive(Clone, Copy, Debug, PartialEq, Eq)]
+#[derive(Clone, Copy)]
 pub enum Change {
     // The value stays.
     Keep,
@@ -24,20 +23,6 @@ impl Change {
             Change::Add(0) => Change::Keep,
             Change::Mask { mask: 0, bits: 0 } => Change::Keep,
             other => other,
-        }
-    }
-}
-
-pub impl fmt::Display for Change as ChangeDisplay {
-    fn fmt<W: fmt::Write>(&self, f: &mut fmt::Formatter<W>) -> fmt::Result {
-        match *self {
-            Change::Keep => write!(f, "keep"),
-            Change::Add(amount) => write!(f, "add {amount}"),
-            Change::Set(choice) => write!(f, "set {choice}"),
-            Change::Mask { mask, bits } => write!(
-                f,
-                "set the bits under mask {mask:04X} to {bits:04X}"
-            ),
         }
     }
 }

@@ -4,7 +4,7 @@ ghost use mathlib.Core.Bool.{true};
 ghost use Rattle.kinds.specs.Letters.{proper};
 
 // What the values of a kind are.
-#[derive(Clone, Copy, Debug, PartialEq, Eq)]
+#[derive(Clone, Copy)]
 pub enum Letter {
     // An amount, changed by additions.
     Amount,
@@ -17,7 +17,7 @@ pub enum Letter {
 }
 
 // The values 0 to `limit`, which is a limit that the letter allows.
-#[derive(Clone, Copy, Debug, PartialEq, Eq)]
+#[derive(Clone, Copy)]
 pub struct Kind {
     pub letter: Letter,
     pub limit: u32,

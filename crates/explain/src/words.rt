@@ -1,15 +1,27 @@
 // Frames and refusals in plain words.
-use crate::frame::Frame;
-use crate::frame::Operation;
-use crate::frame::Side;
-use crate::refusal::FrameRefusal;
-use crate::refusal::LineRefusal;
-use kinds::change::ChangeDisplay;
+use frames::frame::Frame;
+use frames::frame::Operation;
+use frames::frame::Side;
+use frames::refusal::FrameRefusal;
+use frames::refusal::LineRefusal;
+use kinds::change::Change;
 use std::fmt;
 
-pub impl fmt::Display for Side as SideDisplay {
+// A value that is shown in words.
+#[derive(Clone, Copy)]
+pub struct Words<T>(pub T);
+
+pub impl fmt::Display for Words<Frame<'_>> as FrameWords {
     fn fmt<W: fmt::Write>(&self, f: &mut fmt::Formatter<W>) -> fmt::Result {
-        match self {
+        let side = Words(self.0.side);
+        let operation = Words(self.0.operation);
+        write!(f, "{side}: {operation}")
+    }
+}
+
+pub impl fmt::Display for Words<Side> as SideWords {
+    fn fmt<W: fmt::Write>(&self, f: &mut fmt::Formatter<W>) -> fmt::Result {
+        match self.0 {
             Side::Sheet => write!(f, "sheet"),
             Side::Table => write!(f, "table"),
         }
@@ -23,9 +35,9 @@ fn write_text<W: fmt::Write>(text: &[u8], f: &mut fmt::Formatter<W>) -> fmt::Res
     Ok(())
 }
 
-pub impl fmt::Display for Operation<'_> as OperationDisplay {
+pub impl fmt::Display for Words<Operation<'_>> as OperationWords {
     fn fmt<W: fmt::Write>(&self, f: &mut fmt::Formatter<W>) -> fmt::Result {
-        match *self {
+        match self.0 {
             Operation::Keep => write!(f, "keep"),
             Operation::Insert { at } => write!(f, "insert a record at {at}"),
             Operation::Remark { at, text } => {
@@ -36,23 +48,29 @@ pub impl fmt::Display for Operation<'_> as OperationDisplay {
             Operation::Delete { at } => write!(f, "delete at {at}"),
             Operation::Move { from, to } => write!(f, "move from {from} to {to}"),
             Operation::Change { at, column, change } => {
+                let change = Words(change);
                 write!(f, "at {at}, column {column}: {change}")
             }
         }
     }
 }
 
-pub impl fmt::Display for Frame<'_> as FrameDisplay {
+pub impl fmt::Display for Words<Change> as ChangeWords {
     fn fmt<W: fmt::Write>(&self, f: &mut fmt::Formatter<W>) -> fmt::Result {
-        let side = self.side;
-        let operation = self.operation;
-        write!(f, "{side}: {operation}")
+        match self.0 {
+            Change::Keep => write!(f, "keep"),
+            Change::Add(amount) => write!(f, "add {amount}"),
+            Change::Set(choice) => write!(f, "set {choice}"),
+            Change::Mask { mask, bits } => {
+                write!(f, "set the bits under mask {mask:04X} to {bits:04X}")
+            }
+        }
     }
 }
 
-pub impl fmt::Display for LineRefusal as LineRefusalDisplay {
+pub impl fmt::Display for Words<LineRefusal> as LineRefusalWords {
     fn fmt<W: fmt::Write>(&self, f: &mut fmt::Formatter<W>) -> fmt::Result {
-        match self {
+        match self.0 {
             LineRefusal::TooLong => write!(f, "more than 80 characters"),
             LineRefusal::NotHexadecimal => write!(f, "not pairs of the digits 0-9 and A-F"),
             LineRefusal::ShortBuffer => write!(f, "a buffer shorter than 64 bytes"),
@@ -60,9 +78,9 @@ pub impl fmt::Display for LineRefusal as LineRefusalDisplay {
     }
 }
 
-pub impl fmt::Display for FrameRefusal as FrameRefusalDisplay {
+pub impl fmt::Display for Words<FrameRefusal> as FrameRefusalWords {
     fn fmt<W: fmt::Write>(&self, f: &mut fmt::Formatter<W>) -> fmt::Result {
-        match self {
+        match self.0 {
             FrameRefusal::WrongLength => write!(f, "the length does not fit the operation"),
             FrameRefusal::UnknownSide => write!(f, "the side letter is neither L nor R"),
             FrameRefusal::UnknownOperation => {
