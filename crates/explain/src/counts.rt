@@ -1,7 +1,7 @@
 // How many lines of a log there were, and of which sort.
 ghost use mathlib.Core.Path.{_≡_};
 ghost use Prim.Native.Nat.{_+_};
-use frames::frame::Side;
+use kinds::side::Side;
 use std::fmt;
 
 #[derive(Clone, Copy)]
@@ -45,8 +45,8 @@ impl Counts {
 
     pub fn note_operation(&mut self, side: Side) {
         match side {
-            Side::Sheet => self.sheet = self.sheet.saturating_add(1),
-            Side::Table => self.table = self.table.saturating_add(1),
+            Side::Left => self.sheet = self.sheet.saturating_add(1),
+            Side::Right => self.table = self.table.saturating_add(1),
         }
     }
 

@@ -1,10 +1,10 @@
 // Frames and refusals in plain words.
 use frames::frame::Frame;
 use frames::frame::Operation;
-use frames::frame::Side;
 use frames::refusal::FrameRefusal;
 use frames::refusal::LineRefusal;
 use kinds::change::Change;
+use kinds::side::Side;
 use std::fmt;
 
 // A value that is shown in words.
@@ -22,8 +22,8 @@ pub impl fmt::Display for Words<Frame<'_>> as FrameWords {
 pub impl fmt::Display for Words<Side> as SideWords {
     fn fmt<W: fmt::Write>(&self, f: &mut fmt::Formatter<W>) -> fmt::Result {
         match self.0 {
-            Side::Sheet => write!(f, "sheet"),
-            Side::Table => write!(f, "table"),
+            Side::Left => write!(f, "sheet"),
+            Side::Right => write!(f, "table"),
         }
     }
 }

@@ -18,8 +18,8 @@ use Rattle.kinds.specs.Answers.{_>>=_, test}
 use Rattle.kinds.specs.Changes.{plain, plain-add}
 use Rattle.kinds.specs.declared.change.Change.{Change}
 use Rattle.kinds.specs.declared.change.Change.the-variants.{Keep, Add, Set, Mask}
-use Rattle.frames.specs.declared.frame.Side.{Side}
-use Rattle.frames.specs.declared.frame.Side.the-variants.{Sheet, Table}
+use Rattle.kinds.specs.declared.side.Side.{Side}
+use Rattle.kinds.specs.declared.side.Side.the-variants.{Left, Right}
 use Rattle.frames.specs.declared.frame.Frame.{Frame}
 use Rattle.frames.specs.declared.refusal.FrameRefusal.{FrameRefusal}
 use Rattle.frames.specs.declared.refusal.FrameRefusal.the-variants.{WrongLength, UnknownSide, UnknownOperation, RemarkFromTable, UnprintableText, UnknownChange, KeepWithOperand}
@@ -94,8 +94,8 @@ module _ (bytes : List ℕ) (small : (k : ℕ) → byte bytes k < 256) where
       (two 2, simp length-drop (omega arith), good, refl)))
 
   remark-from-held : (s : Side) → Answers (Held bytes) (remark-from s bytes)
-  remark-from-held Sheet = remark-held
-  remark-from-held Table = tt
+  remark-from-held Left = remark-held
+  remark-from-held Right = tt
 
   edit-held : (s : Side) → Answers (Held bytes) (edit-in s bytes)
   edit-held s = by (eqb (byte bytes 1) (letter "K")) (eqb (byte bytes 1) (letter "I")) (eqb (byte bytes 1) (letter "N")) (eqb (byte bytes 1) (letter "D")) (eqb (byte bytes 1) (letter "M")) (eqb (byte bytes 1) (letter "C"))

@@ -15,15 +15,15 @@ use Rattle.std.specs.shelf.Lists.{All}
 use Rattle.kinds.specs.Changes.{plain}
 use Rattle.kinds.specs.declared.change.Change.{Change}
 use Rattle.kinds.specs.declared.change.Change.the-variants.{Keep, Add, Set, Mask}
-use Rattle.frames.specs.declared.frame.Side.{Side}
-use Rattle.frames.specs.declared.frame.Side.the-variants.{Sheet, Table}
+use Rattle.kinds.specs.declared.side.Side.{Side}
+use Rattle.kinds.specs.declared.side.Side.the-variants.{Left, Right}
 use Rattle.frames.specs.Edits.{change}
 use Rattle.frames.specs.Frames.{letter, change-in, frame}
 use Rattle.frames.specs.Laws.{Operand, Says, Sayable}
 
 abbrev side-letter : Side → ℕ
-side-letter Sheet = letter "L"
-side-letter Table = letter "R"
+side-letter Left = letter "L"
+side-letter Right = letter "R"
 
 abbrev Bytes : List ℕ → Type 0
 Bytes xs = All (λ b. b < 256) xs
@@ -47,13 +47,13 @@ module _ (at column : ℕ) (position : at < 65536) (narrow : column < 256) where
   spoken s l a b c d = side-letter s ∷ letter "C" ∷ at / 256 ∷ at % 256 ∷ column ∷ letter l ∷ a ∷ b ∷ c ∷ d ∷ []
 
   side-small : (s : Side) → side-letter s < 256
-  side-small Sheet = omega arith
-  side-small Table = omega arith
+  side-small Left = omega arith
+  side-small Right = omega arith
 
   module _ (e : Change) (l : String) (a b c d : ℕ) (small : letter l < 256) (operand : Bytes (a ∷ b ∷ c ∷ d ∷ [])) where
     read : (s : Side) → change-in (spoken s l a b c d) ≡ Ok e → frame (spoken s l a b c d) ≡ Ok (s, change at column (plain e))
-    read Sheet is = ap (λ r. (r >>= λ f. Ok (change (at / 256 * 256 + at % 256) column (plain f))) >>= λ x. Ok (Sheet, x)) is ∙ ap (λ p. Ok (Sheet, change p column (plain e))) (two-is at)
-    read Table is = ap (λ r. (r >>= λ f. Ok (change (at / 256 * 256 + at % 256) column (plain f))) >>= λ x. Ok (Table, x)) is ∙ ap (λ p. Ok (Table, change p column (plain e))) (two-is at)
+    read Left is = ap (λ r. (r >>= λ f. Ok (change (at / 256 * 256 + at % 256) column (plain f))) >>= λ x. Ok (Left, x)) is ∙ ap (λ p. Ok (Left, change p column (plain e))) (two-is at)
+    read Right is = ap (λ r. (r >>= λ f. Ok (change (at / 256 * 256 + at % 256) column (plain f))) >>= λ x. Ok (Right, x)) is ∙ ap (λ p. Ok (Right, change p column (plain e))) (two-is at)
 
     said : (s : Side) → change-in (spoken s l a b c d) ≡ Ok e → (bytes : List ℕ) × Says s at column (plain e) bytes
     said s is = (

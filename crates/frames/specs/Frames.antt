@@ -15,8 +15,8 @@ use Rattle.kinds.specs.Answers.{_>>=_, test}
 use Rattle.kinds.specs.Changes.{plain}
 use Rattle.kinds.specs.declared.change.Change.{Change}
 use Rattle.kinds.specs.declared.change.Change.the-variants.{Keep, Add, Set, Mask}
-use Rattle.frames.specs.declared.frame.Side.{Side}
-use Rattle.frames.specs.declared.frame.Side.the-variants.{Sheet, Table}
+use Rattle.kinds.specs.declared.side.Side.{Side}
+use Rattle.kinds.specs.declared.side.Side.the-variants.{Left, Right}
 use Rattle.frames.specs.declared.frame.Operation.{Operation}
 use Rattle.frames.specs.declared.frame.Frame.{Frame}
 use Rattle.frames.specs.declared.refusal.FrameRefusal.{FrameRefusal}
@@ -42,7 +42,7 @@ four-bytes bytes i = byte bytes i * 16777216 + byte bytes (i + 1) * 65536 + byte
 
 -- L for the sheet, R for the table
 abbrev pub side : ℕ → Result Side FrameRefusal
-side b = cond (eqb b (letter "L")) (Ok Sheet) (cond (eqb b (letter "R")) (Ok Table) (Err UnknownSide))
+side b = cond (eqb b (letter "L")) (Ok Left) (cond (eqb b (letter "R")) (Ok Right) (Err UnknownSide))
 
 -- the frame has just so many bytes
 abbrev pub sized : ℕ → List ℕ → Result (Unit {0}) FrameRefusal
@@ -66,8 +66,8 @@ remark-in bytes = do
 
 -- the sheet alone has remarks
 abbrev pub remark-from : Side → List ℕ → Result Edit FrameRefusal
-remark-from Sheet bytes = remark-in bytes
-remark-from Table bytes = Err RemarkFromTable
+remark-from Left bytes = remark-in bytes
+remark-from Right bytes = Err RemarkFromTable
 
 -- the change letter at byte 5 and its operand from byte 6 on: K 0, A an amount in two's complement, S a choice, F mask and bits
 abbrev pub change-in : List ℕ → Result Change FrameRefusal

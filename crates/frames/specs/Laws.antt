@@ -12,7 +12,7 @@ use Rattle.std.specs.shelf.Lists.{All}
 use Rattle.kinds.specs.Changes.{plain}
 use Rattle.kinds.specs.declared.change.Change.{Change}
 use Rattle.kinds.specs.declared.change.Change.the-variants.{Keep, Add, Set, Mask}
-use Rattle.frames.specs.declared.frame.Side.{Side}
+use Rattle.kinds.specs.declared.side.Side.{Side}
 use Rattle.frames.specs.declared.frame.Frame.{Frame}
 use Rattle.frames.specs.declared.refusal.FrameRefusal.{FrameRefusal}
 use Rattle.frames.specs.Refusals.{frame-number}

@@ -1,12 +1,6 @@
 // What a frame says: an operation, from one of the two sides.
 use kinds::change::Change;
-
-// The document that an operation was made on.
-#[derive(Clone, Copy)]
-pub enum Side {
-    Sheet,
-    Table,
-}
+use kinds::side::Side;
 
 // An operation on a document. A remark's text is a part of the frame's bytes.
 #[derive(Clone, Copy)]

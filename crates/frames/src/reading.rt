@@ -8,9 +8,9 @@ ghost use Rattle.kinds.specs.Answers.{test};
 ghost use Rattle.frames.specs.declared.refusal.FrameRefusal.the-variants.{UnprintableText};
 use crate::frame::Frame;
 use crate::frame::Operation;
-use crate::frame::Side;
 use crate::refusal::FrameRefusal;
 use kinds::change::Change;
+use kinds::side::Side;
 
 // The most bytes of a remark's text.
 const LONGEST_TEXT: usize = 24;
@@ -19,8 +19,8 @@ fn read_side(letter: u8) -> Result<Side, FrameRefusal>
     ensures { λ r. ⌜ r ≡ side letter ⌝ }
 {
     match char::from(letter) {
-        'L' => Ok(Side::Sheet),
-        'R' => Ok(Side::Table),
+        'L' => Ok(Side::Left),
+        'R' => Ok(Side::Right),
         _ => Err(FrameRefusal::UnknownSide),
     }
 }
@@ -124,8 +124,8 @@ fn read_operation(side: Side, bytes: &[u8]) -> Result<Operation<'_>, FrameRefusa
             })
         }
         'N' => match side {
-            Side::Sheet => read_remark(bytes),
-            Side::Table => Err(FrameRefusal::RemarkFromTable),
+            Side::Left => read_remark(bytes),
+            Side::Right => Err(FrameRefusal::RemarkFromTable),
         },
         'D' => {
             check_length(bytes, 4)?;

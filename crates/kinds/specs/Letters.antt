@@ -1,5 +1,5 @@
 -- The limits that each letter of a kind allows.
-use mathlib.Core.Bool.{Bool, true, false, _&&_}
+use mathlib.Core.Bool.{Bool, _&&_}
 use Prim.Native.Nat.{ℕ, _+_}
 use lib.Bits.{bitAnd}
 use lib.Dec.{leb, eqb}

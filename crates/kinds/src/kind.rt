@@ -4,7 +4,7 @@ ghost use mathlib.Core.Bool.{true};
 ghost use Rattle.kinds.specs.Letters.{proper};
 
 // What the values of a kind are.
-#[derive(Clone, Copy)]
+#[derive(Clone, Copy, PartialEq, Eq)]
 pub enum Letter {
     // An amount, changed by additions.
     Amount,
