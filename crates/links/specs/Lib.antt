@@ -1,0 +1,5 @@
+pub mod Columns
+pub mod Laws
+pub mod Layers
+pub mod Refusals
+pub mod Translations

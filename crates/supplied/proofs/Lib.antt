@@ -1,0 +1,3 @@
+pub mod Memoryless
+pub mod LowBits
+pub mod Carries

@@ -1,0 +1,5 @@
+use Rattle.kinds.proofs.Same.{kind-same}
+use Rattle.supplied.proofs.low_link.LowLink.left_kind.Needs as need
+
+pub returns : need.returns
+returns c = kind-same _ _ (c .flags .ensures .letter) (c .flags .ensures .limit)

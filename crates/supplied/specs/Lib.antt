@@ -1,0 +1,4 @@
+pub mod Carries
+pub mod LowBits
+pub mod Memoryless
+pub mod Supplied
