@@ -1,5 +1,5 @@
 mod Digits
 mod Readings
 mod Texts
-mod Bounds
-mod Sayings
+pub mod Bounds
+pub mod Sayings
