@@ -1,0 +1,10 @@
+pub mod Answers
+pub mod Changes
+pub mod Places
+pub mod Three
+pub mod Edits
+pub mod Rows
+pub mod Sound
+pub mod Steps
+pub mod Runs
+pub mod Finding
