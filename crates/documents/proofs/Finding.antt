@@ -10,14 +10,15 @@ use lib.ListN.{length, getD, set, take, drop, length-map}
 use Rattle.std.specs.Holes.{inserted, removed}
 use Rattle.std.proofs.shelf.Lists.{take-all, take-map, drop-map, map-append, map-set}
 use Rattle.std.proofs.shelf.Edits.{length-removed}
-use Rattle.std.proofs.shelf.Tests.{cases-lt}
+use lib.Dec.{ltb}
+use Rattle.std.proofs.shelf.Tests.{cases-lt, ltb-false, cases-bool}
 use Rattle.std.specs.declared.option.Option.{Option}
 use Rattle.std.specs.declared.option.Option.the-variants.{Some, None}
 use Rattle.documents.specs.declared.line.Line.{Line as Stored-line}
 use Rattle.documents.specs.Documents.{Line, record-line, remark-line, line, sheet, records-of, records-before, line-of, place-for, item, moved}
 use Rattle.documents.specs.Across.{is-record}
 use Rattle.documents.specs.Attempts.{State}
-use Rattle.documents.proofs.Places.{item-there, item-below, set-item, moved-is, moved-nowhere, before-within, records-removed, record-below, before-line-of, line-of-within, at-line-of, place-is-line, place-fits}
+use Rattle.documents.proofs.Places.{item-there, item-below, set-item, moved-is, moved-nowhere, before-within, records-removed, record-below, before-line-of, line-of-within, at-line-of, place-fits}
 
 clash : {P : Type 0} → _≡_ {A = ℕ} 0 1 → P
 clash h = absurd (omega arith)
@@ -144,6 +145,16 @@ line-over (record-line x ∷ ls) zero j lt h = clash (cc h)
 line-over (remark-line t ∷ ls) zero j lt h = omega arith
 line-over (record-line x ∷ ls) (suc i) j lt h = rw add-one (rw add-one at (line-over ls i j (omega arith) h))
 line-over (remark-line t ∷ ls) (suc i) j lt h = rw add-one (rw add-one at (line-over ls i j (omega arith) h))
+
+-- past the last record there is the sheet's end
+pub line-of-end : (ls : List Line) (j : ℕ) → length (records-of ls) ≤ j → line-of j ls ≡ length ls
+line-of-end [] j h = refl
+line-of-end (remark-line t ∷ ls) j h = ap suc (line-of-end ls j h)
+line-of-end (record-line x ∷ ls) zero h = absurd (omega arith)
+line-of-end (record-line x ∷ ls) (suc j) h = ap suc (line-of-end ls j (omega arith))
+
+pub place-is-line : (ls : List Line) (j : ℕ) → place-for j ls ≡ line-of j ls
+place-is-line ls j = ⊎-elim (λ t. rw t refl) (λ t. rw t (sym (line-of-end ls j (ltb-false _ _ t)))) (cases-bool (ltb j (length (records-of ls))))
 
 -- what is known of the line of record j, and of the place for a record j, where there are m records
 pub record Line-of (ls : List Line) (m j p : ℕ) : Type 0 where

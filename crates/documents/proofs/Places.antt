@@ -10,8 +10,9 @@ use native.Mathlib.Omega.{arith}
 use lib.Dec.{ltb}
 use lib.ListN.{length, getD, set, take, drop}
 use Rattle.std.specs.Holes.{inserted, removed}
+use Rattle.std.proofs.shelf.Lists.{take-all}
 use Rattle.std.proofs.shelf.Edits.{length-inserted, length-removed}
-use Rattle.std.proofs.shelf.Tests.{ltb-true, ltb-false, cases-bool}
+use Rattle.std.proofs.shelf.Tests.{ltb-false, cases-bool}
 use Rattle.documents.specs.Documents.{Line, record-line, remark-line, records-of, records-before, line-of, place-for, item, put-in, moved}
 
 -- ---- items
@@ -152,16 +153,8 @@ line-of-before (record-line y ∷ ls) (suc p) x e = ap suc (line-of-before ls p 
 line-of-before (remark-line t ∷ ls) zero x e = cc
 line-of-before (remark-line t ∷ ls) (suc p) x e = ap suc (line-of-before ls p x e)
 
--- past the last record there is the sheet's end
-pub line-of-end : (ls : List Line) (j : ℕ) → length (records-of ls) ≤ j → line-of j ls ≡ length ls
-line-of-end [] j h = refl
-line-of-end (remark-line t ∷ ls) j h = ap suc (line-of-end ls j h)
-line-of-end (record-line x ∷ ls) zero h = absurd (omega arith)
-line-of-end (record-line x ∷ ls) (suc j) h = ap suc (line-of-end ls j (omega arith))
-
-pub place-is-line : (ls : List Line) (j : ℕ) → place-for j ls ≡ line-of j ls
-place-is-line ls j = ⊎-elim (λ t. rw t refl) (λ t. rw t (sym (line-of-end ls j (ltb-false _ _ t)))) (cases-bool (ltb j (length (records-of ls))))
-
--- the place for record j is in the sheet, and j records stand before it
+-- The place for record j is in the sheet, and j records stand before it.
 pub place-fits : (ls : List Line) (j : ℕ) → j ≤ length (records-of ls) → (place-for j ls ≤ length ls) × (records-before (place-for j ls) ls ≡ j)
-place-fits ls j h = rw (place-is-line ls j) (line-of-within ls j, before-line-of ls j h)
+place-fits ls j h =
+    let all : records-before (length ls) ls ≡ length (records-of ls) = ap (λ l. length (records-of l)) (take-all (length ls) ls (omega arith)) in
+    ⊎-elim (λ t. rw t (line-of-within ls j, before-line-of ls j h)) (λ t. rw t (omega arith, omega (arith, all, h, ltb-false _ _ t))) (cases-bool (ltb j (length (records-of ls))))

@@ -52,12 +52,15 @@ pub record Same-documents {R : Type 0} (d e : State R) : Type 0 where
   pub tables : d .records ≡ e .records
 
 module _ {R : Type 0} (row : Columns R) where
-  -- Sheet and table have as many records as there are row links; the k-th records agree in every column through the k-th
-  -- link, and each of their values lies within the limit of its kind.
+  -- The documents agree.
   pub record Agreeing (d : State R) : Type 0 where
+    -- sheet and table have as many records as there are row links
     pub as-many : (s : Side) → length (rows s d) ≡ length (d .links)
+    -- each record has four numbers
     pub whole : (s : Side) (k : ℕ) → k < length (d .links) → length (getD (rows s d) k []) ≡ 4
+    -- the k-th records agree in every column through the k-th link
     pub agree : (k c : ℕ) → k < length (d .links) → c < 4 → row .agrees c (getD (d .links) k (d .blank)) (value Left d k c) (value Right d k c)
+    -- every value lies within the limit of its kind
     pub within : (s : Side) (k c : ℕ) → k < length (d .links) → c < 4 → value s d k c ≤ kinds row s d c .limit
 
   -- the edit fits the side's document in d, and makes of it what e holds
@@ -106,9 +109,9 @@ module _ {R : Type 0} (row : Columns R) where
     pub alike : Alike-from-here d then
 
   module _ (size : ℕ) (pattern : R) where
-    -- Two changes e and f of one cell, accepted one after the other: their fold is present; some frame says it, as real bytes
-    -- said the first; and every pair that was alike when new and was given the same before takes any frame that says it in
-    -- the place of the two.
+    -- Two changes e and f of one cell, accepted one after the other: their fold is present; some frame of real bytes says it,
+    -- if the first was one; and every pair that was alike when new and was given the same before takes any frame that says
+    -- it in the place of the two.
     pub record Foldable (before : List (List ℕ)) (s : Side) (p c : ℕ) (e f : Change) (first : List ℕ) (t u : Edit) (d d2 : State R) : Type 0 where
       pub ef : Change
       pub fold-is : fold (kinds row s d c) e f ≡ Ok (Some ef)
