@@ -1,4 +1,6 @@
 // Explains a bench log: each line in plain words, and then the counts.
+#![tactic(auto)]
+
 mod counts;
 mod explainer;
 mod partial;

@@ -1,4 +1,6 @@
 // Kinds of values and the changes that they take.
+#![tactic(auto)]
+
 mod applying;
 pub mod change;
 pub mod kind;

@@ -1,4 +1,6 @@
 // Links between kinds of values, which carry changes across: their law, and the layers that build links from links.
+#![tactic(auto)]
+
 pub mod admit;
 pub mod chain;
 pub mod flip;

@@ -1,4 +1,6 @@
 // A log in pieces: where a line ends, and the line that a piece's end cuts.
+#![tactic(auto)]
+
 pub mod ends;
 pub mod laws;
 pub mod partial;

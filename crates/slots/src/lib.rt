@@ -1,4 +1,6 @@
 // A list that stands over a table of slots which its caller lends.
+#![tactic(auto)]
+
 mod list;
 mod refusal;
 #[cfg(test)]

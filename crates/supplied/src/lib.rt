@@ -1,4 +1,6 @@
 // The supplied links, and the supplied row of four.
+#![tactic(auto)]
+
 pub mod carry;
 pub mod carry_link;
 pub mod label;

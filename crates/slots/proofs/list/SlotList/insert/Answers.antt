@@ -14,9 +14,9 @@ returns g c =
       omega arith,
       omega arith,
       record {
-        items_are = simp (c.len-len.ensures.front, c.copy-within.ensures.after) (inserts xs n c.args.at x (omega arith) (omega arith));
+        items_are = simp (c.len-len.ensures.front, c.copy_within.ensures.after) (inserts xs n c.args.at x (omega arith) (omega arith));
         same_room = search (rules, places);
         same_lender = refl;
-        slots_among = simp c.copy-within.ensures.after (All-set (Has (x ∷ xs)) _ c.args.at x has.0 (all_copied _ xs (c.args.at + 1) c.args.at (n - c.args.at) has.1));
+        slots_among = simp c.copy_within.ensures.after (All-set (Has (x ∷ xs)) _ c.args.at x has.0 (all_copied _ xs (c.args.at + 1) c.args.at (n - c.args.at) has.1));
       },
     )

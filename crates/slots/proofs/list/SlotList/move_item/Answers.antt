@@ -34,10 +34,10 @@ returns g c =
       omega arith,
       elim c.if-from-to.branch [
         | then-from-to w ↦
-            simp (w.self-is, w.copy-within.ensures.after)
+            simp (w.self-is, w.copy_within.ensures.after)
             (edited s _ from to from (from + 1) (to + 1 - (from + 1)) d (omega arith) (omega arith) (omega arith) refl refl (moves_up xs s.len from to d (omega arith) (omega arith)))
         | else-from-to w ↦
-            simp (w.self-is, w.copy-within-else-from-to.ensures.after)
+            simp (w.self-is, w.copy_within-else-from-to.ensures.after)
             (edited s _ from to (to + 1) to (from - to) d (omega arith) (omega arith) (omega arith) refl refl (moves_down xs s.len from to d (omega arith) (omega arith)))
       ],
     )

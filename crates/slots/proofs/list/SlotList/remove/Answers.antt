@@ -13,9 +13,9 @@ returns g c =
       omega arith,
       simp c.len-len.ensures.front (get_or_default xs at _ _ (omega arith) ∙ sym (get_or-take n xs at _ (omega arith))),
       record {
-        items_are = simp (c.len-len.ensures.front, c.copy-within.ensures.after) (removes xs n at (omega arith) (omega arith));
-        same_room = c.copy-within.ensures.len;
+        items_are = simp (c.len-len.ensures.front, c.copy_within.ensures.after) (removes xs n at (omega arith) (omega arith));
+        same_room = c.copy_within.ensures.len;
         same_lender = refl;
-        slots_among = simp c.copy-within.ensures.after (all_copied (Has xs) xs at (at + 1) (n - (at + 1)) (all_has_itself xs));
+        slots_among = simp c.copy_within.ensures.after (all_copied (Has xs) xs at (at + 1) (n - (at + 1)) (all_has_itself xs));
       },
     )
