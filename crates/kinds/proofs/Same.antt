@@ -4,6 +4,8 @@ use mathlib.Core.Bool.{So-prop}
 use mathlib.Core.HLevel.{is_prop→PathP}
 use Rattle.std.proofs.lemmas.Bool.{eqb-true}
 use Rattle.std.proofs.lemmas.Bool.Decides.{nat_tests}
+use denote.Enum.Bare.{sameb}
+use Rattle.kinds.specs.contracts.kind.Letter.{the_type}
 use Rattle.kinds.specs.declared.kind.Letter.{Letter}
 use Rattle.kinds.specs.declared.kind.Letter.TheVariants.{Amount, Choice, Flags, Blank}
 use Rattle.kinds.specs.declared.kind.Kind.{Kind}
@@ -49,6 +51,25 @@ at_place Blank = refl
 
 pub same_place : (a b : Letter) → place a ≡ place b → a ≡ b
 same_place a b h = at_place a ∙ ap letter_at h ∙ sym (at_place b)
+
+-- letters are equal, as their derived equality says, exactly when their places are
+pub same_letters : (a b : Letter) → sameb the_type a b ≡ eqb (place a) (place b)
+same_letters Amount Amount = refl
+same_letters Amount Choice = refl
+same_letters Amount Flags = refl
+same_letters Amount Blank = refl
+same_letters Choice Amount = refl
+same_letters Choice Choice = refl
+same_letters Choice Flags = refl
+same_letters Choice Blank = refl
+same_letters Flags Amount = refl
+same_letters Flags Choice = refl
+same_letters Flags Flags = refl
+same_letters Flags Blank = refl
+same_letters Blank Amount = refl
+same_letters Blank Choice = refl
+same_letters Blank Flags = refl
+same_letters Blank Blank = refl
 
 -- the test of two kinds decides whether they are one
 pub decides_same : SameOne
