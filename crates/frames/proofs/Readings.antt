@@ -1,16 +1,32 @@
 -- What the tests of a line come to.
 use Rattle.std.proofs.Common.{◌≡◌, ℕ, ◌<◌, ◌≤◌, Bool, true, false, leb, ◌↔◌, List, ◌++◌, length, take, drop, is_some, Some, None, Ok, Err, Option, Result, sym, refl, ap, ◌∙◌, subst, arith}
 use Rattle.std.proofs.lemmas.List.{take_at}
-use Rattle.std.proofs.lemmas.Bool.{le-leb, true≢false}
+use Rattle.std.proofs.lemmas.Bool.{le-leb, lt-leb, true≢false}
 use Rattle.frames.specs.declared.line.LogLine.{LogLine}
 use Rattle.frames.specs.declared.line.LogLine.TheVariants.{Bytes}
 use Rattle.frames.specs.declared.refusal.LineRefusal.{LineRefusal}
+use Rattle.frames.specs.declared.refusal.LineRefusal.TheVariants.{NotHexadecimal, ShortBuffer}
 use Rattle.frames.specs.Lines.{bytes_of, is_skipped, line_bytes, answer, written, Spells, Spelled, Refusals}
-use Rattle.frames.proofs.Digits.{length_pairs, spelt_is, spells_back}
+use Rattle.frames.proofs.Digits.{length_pairs, none_from, spelt_is, spells_back}
 
 some_from : {X : Type 0} (o : Option X) → is_some o ≡ true → (x : X) × (o ≡ Some x)
 some_from None e = absurd (let z : ◌≡◌ {A = ℕ} 0 1 = cc in omega arith)
 some_from (Some x) e = (x, refl)
+
+-- a line that is kept, and no pairs of digits
+pub misspelled : (line : List ℕ) (room : ℕ) → length line ≤ 80 → is_skipped line ≡ false → is_some (bytes_of line) ≡ false → line_bytes line room ≡ Err NotHexadecimal
+misspelled line room short kept none =
+    let a = le-leb (length line) 80 short in
+    let b = none_from (bytes_of line) none in
+    rw (a, kept, b) refl
+
+-- a line that gives bytes, for which the buffer has no room
+pub unroomed : (line : List ℕ) (room : ℕ) → length line ≤ 80 → is_skipped line ≡ false → is_some (bytes_of line) ≡ true → room < 64 → line_bytes line room ≡ Err ShortBuffer
+unroomed line room short kept digits less =
+    let a = le-leb (length line) 80 short in
+    let b = (some_from (bytes_of line) digits).1 in
+    let d = lt-leb 64 room less in
+    rw (a, kept, b, d) refl
 
 -- what is known of a line that gives bytes
 module _ (line buffer : List ℕ) (short : length line ≤ 80) (kept : is_skipped line ≡ false) (digits : is_some (bytes_of line) ≡ true) (room : 64 ≤ length buffer) where

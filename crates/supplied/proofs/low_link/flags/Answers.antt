@@ -4,8 +4,8 @@ use Rattle.kinds.specs.Letters.{all_ones}
 use Rattle.supplied.specs.LowBits.{width_fits}
 use Rattle.supplied.proofs.low_link.flags.Goals as goal
 
-pub invariant-of-result : goal.invariant-of-result
-invariant-of-result c = (ap (λ n. all_ones (n - 1)) (one_shl c.args.width 32 (omega (arith, c.requires.1))) ∙ width_fits c.args.width c.requires.0 c.requires.1, tt)
+pub invariant_of-result : goal.invariant_of-result
+invariant_of-result c = record { proper = ap (λ n. all_ones (n - 1)) (one_shl c.args.width 32 (omega (arith, c.requires.1))) ∙ width_fits c.args.width c.requires.0 c.requires.1 }
 
 pub returns : goal.returns
 returns c = record { letter = refl; limit = ap (λ n. n - 1) (one_shl c.args.width 32 (omega (arith, c.requires.1))) }
