@@ -5,7 +5,6 @@ use Rattle.kinds.specs.declared.refusal.Refusal.{Refusal}
 use Rattle.kinds.specs.declared.side.Side.{Side}
 use Rattle.frames.specs.declared.refusal.FrameRefusal.{FrameRefusal}
 use Rattle.frames.specs.Edits.{Edit}
-use Rattle.documents.specs.declared.fault.Fault.{Fault}
 use Rattle.documents.specs.Attempts.{kind_answer, read}
 
 pub never_ok : {X E : Type 0} (f : E) (x : X) → ◌≡◌ {A = Result X E} (Err f) (Ok x) → ⊥

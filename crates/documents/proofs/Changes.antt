@@ -1,5 +1,5 @@
 -- Changes of a kind: one that keeps leaves the value, and each one's numbers fit a frame.
-use Rattle.std.proofs.Common.{◌≡◌, ℕ, zero, suc, ◌+◌, ◌^◌, ◌<◌, ◌≤◌, Bool, true, false, ◌&&◌, eqb, leb, ℤ, pos, negsuc, nat_abs, Some, Ok, sym, refl, ap, ◌∙◌, subst, arith, w32, SFits}
+use Rattle.std.proofs.Common.{◌≡◌, ℕ, ◌+◌, ◌≤◌, true, false, ◌&&◌, eqb, leb, ℤ, pos, negsuc, nat_abs, Ok, sym, ap, ◌∙◌, arith, w32, SFits}
 use lib.Bits.{bit_and, and_le_r}
 use Rattle.std.proofs.lemmas.Bool.{leb-true, eqb-true, and_parts}
 use Rattle.kinds.specs.declared.kind.Letter.{Letter}

@@ -1,15 +1,13 @@
 -- An edit that is tried on a document is done exactly where it acts on it.
-use Rattle.std.proofs.Common.{◌≡◌, ℕ, ◌<◌, ◌≤◌, Bool, true, false, ltb, leb, List, [], ◌∷◌, length, get_or, set, Some, None, Ok, Err, Result, sym, refl, ap, ◌∙◌, subst}
-use Rattle.std.specs.List.{insert as inserted, remove}
+use Rattle.std.proofs.Common.{◌≡◌, ℕ, ltb, leb, List, length, get_or, Ok, sym, ap}
 use Rattle.std.proofs.lemmas.Bool.{leb-true, ltb-true, le-leb, lt-ltb}
-use Rattle.kinds.specs.Answers.{◌>>=◌, test, need}
+use Rattle.kinds.specs.Answers.{test, need}
 use Rattle.kinds.specs.Kinds.{apply}
 use Rattle.kinds.specs.declared.kind.Kind.{Kind}
 use Rattle.frames.specs.declared.refusal.FrameRefusal.TheVariants.{RemarkFromTable}
 use Rattle.frames.specs.Edits.{Edit, keep, insert, remark, delete, move, change}
-use Rattle.documents.specs.declared.fault.Fault.{Fault}
 use Rattle.documents.specs.declared.fault.Fault.TheVariants.{NotAFrame, NotInDocument, NotARecord, NotOfKind}
-use Rattle.documents.specs.Documents.{item, moved, zeros, Form, Acts}
+use Rattle.documents.specs.Documents.{item, Form, Acts}
 use Rattle.documents.specs.Attempts.{kind_answer, tried}
 use Rattle.documents.proofs.Answers.{bind_ok, need_ok, test_ok, kind_ok}
 

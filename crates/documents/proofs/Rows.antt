@@ -1,5 +1,5 @@
 -- Two rows matched by their row link, and a change carried from one to the other.
-use Rattle.std.proofs.Common.{◌≡◌, ℕ, zero, suc, ◌<◌, ◌≤◌, ◌⊎◌, List, [], ◌∷◌, length, get_or, set, Some, Ok, sym, refl, ap, ◌∙◌, subst, inl, inr, arith}
+use Rattle.std.proofs.Common.{◌≡◌, ℕ, zero, suc, ◌<◌, ◌≤◌, ◌⊎◌, List, length, get_or, set, Some, Ok, sym, refl, ap, ◌∙◌, subst, inl, inr, arith}
 use Rattle.std.proofs.lemmas.List.{length-set, get_or-set_same, get_or-set_other}
 use Rattle.std.proofs.lemmas.Bool.{cases_eq}
 use Rattle.kinds.specs.Kinds.{apply, fold}
@@ -8,7 +8,7 @@ use Rattle.kinds.specs.declared.change.Change.{Change}
 use Rattle.kinds.specs.declared.side.Side.{Side}
 use Rattle.kinds.specs.declared.side.Side.TheVariants.{Left, Right}
 use Rattle.kinds.proofs.Folding.{folds_act}
-use Rattle.links.specs.Laws.{Carried, sent, refused, Sends}
+use Rattle.links.specs.Laws.{sent, Sends}
 use Rattle.links.specs.Columns.{Columns, across, facing, column_way, LawfulRow}
 use Rattle.documents.specs.Documents.{zeros}
 

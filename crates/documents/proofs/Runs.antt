@@ -1,18 +1,17 @@
 -- Over every list of attempts: the pair stays sound, refuses what it should, and takes folds.
-use Rattle.std.proofs.Common.{◌≡◌, ℕ, zero, suc, ◌+◌, ◌^◌, ◌<◌, ◌≤◌, Bool, true, false, cond, ltb, ◌⊎◌, ◌↔◌, List, [], ◌∷◌, length, get_or, set, Some, None, Ok, Err, Result, sym, refl, ap, ◌∙◌, subst, inl, inr, ⊎_elim, arith, w8, Fits as FitsWidth}
+use Rattle.std.proofs.Common.{◌≡◌, ℕ, zero, suc, ◌<◌, ◌≤◌, ltb, ◌⊎◌, ◌↔◌, List, [], ◌∷◌, length, get_or, set, Some, Ok, Err, Result, sym, refl, ap, ◌∙◌, subst, inl, inr, ⊎_elim, arith, w8, Fits as FitsWidth}
 use Rattle.std.proofs.lemmas.List.{set-set, get_or-set_same}
 use Rattle.std.proofs.lemmas.Bool.{ltb-true, ltb-false, cases_Bool}
-use Rattle.kinds.specs.Answers.{◌>>=◌, test, need}
+use Rattle.kinds.specs.Answers.{◌>>=◌}
 use Rattle.kinds.specs.Changes.{plain}
-use Rattle.kinds.specs.Kinds.{of_kind, apply, fold}
+use Rattle.kinds.specs.Kinds.{apply, fold}
 use Rattle.kinds.specs.declared.change.Change.{Change}
 use Rattle.kinds.specs.declared.side.Side.{Side}
 use Rattle.kinds.specs.declared.side.Side.TheVariants.{Left, Right}
 use Rattle.kinds.proofs.Folding.{folds_plain}
-use Rattle.links.specs.Laws.{Carried, sent, refused}
+use Rattle.links.specs.Laws.{sent}
 use Rattle.links.specs.Columns.{Columns, across, LawfulRow}
 use Rattle.frames.specs.declared.frame.Operation.TheVariants.{Change as Alter}
-use Rattle.frames.specs.declared.frame.Frame.{Frame}
 use Rattle.frames.specs.Edits.{Edit, keep, insert, remark, delete, move, change}
 use Rattle.frames.specs.Frames.{frame, byte}
 use Rattle.frames.specs.Laws.{Says}
@@ -20,14 +19,14 @@ use Rattle.frames.proofs.Bounds.{sound}
 use Rattle.frames.proofs.Sayings.{all_sayable}
 use Rattle.documents.specs.declared.fault.Fault.{Fault}
 use Rattle.documents.specs.declared.fault.Fault.TheVariants.{SheetFull}
-use Rattle.documents.specs.Documents.{Line, record_line, records_of, Item, form, Acts, Lengthens}
-use Rattle.documents.specs.Across.{change_at, translated}
-use Rattle.documents.specs.Attempts.{State, opened, document, kinds, holding, with_own, tried, room, position, given, read, attempt, answer, state_then, after}
-use Rattle.documents.specs.Promise.{Bytes, rows, value, Folds, SameDocuments, Agreeing, Acted, Fits, Acting, Unfit, Replaced, Foldable, Stands, Keeps, Promise}
+use Rattle.documents.specs.Documents.{records_of, Item, form, Lengthens}
+use Rattle.documents.specs.Across.{change_at}
+use Rattle.documents.specs.Attempts.{State, opened, document, kinds, tried, room, given, read, attempt, state_then, after}
+use Rattle.documents.specs.Promise.{Bytes, rows, value, Folds, Agreeing, Fits, Acting, Unfit, Replaced, Foldable, Stands, Promise}
 use Rattle.documents.proofs.Answers.{never_ok, bind_ok, read_ok, same_ok}
 use Rattle.documents.proofs.Changes.{operand}
 use Rattle.documents.proofs.Places.{item_get_or}
-use Rattle.documents.proofs.Three.{Three, Seen, three_seen, three_lengths}
+use Rattle.documents.proofs.Three.{Seen, three_seen, three_lengths}
 use Rattle.documents.proofs.Edits.{tried_acts, acts_tried}
 use Rattle.documents.proofs.Rows.{Matched, Carries, RowFold, within_limits, carry_row, fold_row}
 use Rattle.documents.proofs.Sound.{Sound, Taken, own, At, placed, at_placed, Found, found, applies_at}

@@ -1,6 +1,6 @@
 -- What a pair's state keeps: its records are matched one by one. Where a change finds its record in both documents.
-use Rattle.std.proofs.Common.{◌≡◌, ℕ, zero, suc, ◌+◌, ◌<◌, ◌≤◌, List, [], ◌∷◌, length, get_or, take, set, Some, None, Ok, sym, refl, ap, ◌∙◌, subst, arith}
-use Rattle.std.proofs.lemmas.List.{length-set, set-set, take-set}
+use Rattle.std.proofs.Common.{◌≡◌, ℕ, ◌<◌, ◌≤◌, List, length, get_or, set, Some, Ok, refl, ap, ◌∙◌, arith}
+use Rattle.std.proofs.lemmas.List.{length-set, take-set}
 use Rattle.kinds.specs.Kinds.{apply}
 use Rattle.kinds.specs.declared.change.Change.{Change}
 use Rattle.kinds.specs.declared.side.Side.{Side}
@@ -12,7 +12,7 @@ use Rattle.documents.specs.Across.{translated}
 use Rattle.documents.specs.Attempts.{State, document, kinds, holding}
 use Rattle.documents.specs.Promise.{Acted}
 use Rattle.documents.proofs.Places.{item_below, item_set, record_at, record_set, before_line_of, at_line_of, line_of_before}
-use Rattle.documents.proofs.Three.{Three, Seen, three_set, three_seen, three_lengths}
+use Rattle.documents.proofs.Three.{Three, three_set, three_seen, three_lengths}
 use Rattle.documents.proofs.Rows.{Matched, turned}
 
 pub record Sound {R : Type 0} (row : Columns R) (d : State R) : Type 0 where

@@ -1,31 +1,31 @@
 -- Every edit that fits its own document is taken, and keeps the pair sound.
-use Rattle.std.proofs.Common.{◌≡◌, ℕ, zero, suc, ◌+◌, ◌<◌, ◌≤◌, Bool, true, false, cond, eqb, ltb, leb, List, [], ◌∷◌, length, get_or, take, set, Some, None, Ok, Err, Result, sym, refl, ap, ◌∙◌, subst, ⊎_elim, arith}
+use Rattle.std.proofs.Common.{◌≡◌, ℕ, ◌+◌, ◌<◌, ◌≤◌, true, false, cond, eqb, ltb, List, length, get_or, set, Some, Ok, sym, refl, ap, ◌∙◌, subst, ⊎_elim, arith}
 use Rattle.std.specs.List.{insert as inserted, remove}
 use Rattle.std.proofs.lemmas.List.{set-get_or}
 use Rattle.std.proofs.lemmas.List.Edits.{length-insert, length-remove}
 use Rattle.std.proofs.lemmas.Bool.{ltb-true, eqb-true, cases_Bool}
-use Rattle.kinds.specs.Answers.{◌>>=◌, test, need}
+use Rattle.kinds.specs.Answers.{test}
 use Rattle.kinds.specs.Kinds.{apply}
 use Rattle.kinds.specs.declared.kind.Kind.{Kind}
 use Rattle.kinds.specs.declared.change.Change.{Change}
 use Rattle.kinds.specs.declared.change.Change.TheVariants.{Keep, Add, Set, Mask}
 use Rattle.kinds.specs.declared.side.Side.{Side}
 use Rattle.kinds.specs.declared.side.Side.TheVariants.{Left, Right}
-use Rattle.links.specs.Laws.{Carried, sent, refused}
+use Rattle.links.specs.Laws.{sent}
 use Rattle.links.specs.Columns.{Columns, across, LawfulRow}
 use Rattle.frames.specs.Edits.{Edit, keep, insert, remark, delete, move, change}
 use Rattle.documents.specs.declared.fault.Fault.{Fault}
 use Rattle.documents.specs.Documents.{Line, record_line, remark_line, zeros, records_of, records_before, line_of, place_for, item, moved, Form, Item, form, Acts}
-use Rattle.documents.specs.Across.{change_at, to_table, to_sheet, told, carried, relinked, translated}
-use Rattle.documents.specs.Attempts.{State, document, kinds, holding, with_own, tried, room, position, given}
+use Rattle.documents.specs.Across.{change_at, relinked, translated}
+use Rattle.documents.specs.Attempts.{State, document, kinds, holding, with_own, room, position, given}
 use Rattle.documents.specs.Promise.{Acted, Fits}
 use Rattle.documents.proofs.Answers.{test_ok}
 use Rattle.documents.proofs.Changes.{kept}
 use Rattle.documents.proofs.Places.{item_below, item_there, set_item, moved_nowhere, records_inserted, remark_inserted, records_removed, remark_removed, record_below, records_moved, remark_moved, before_line_of, place_fits, at_line_of, before_within, length_moved}
-use Rattle.documents.proofs.Three.{Three, Seen, three_inserted, three_removed, three_seen, three_lengths, three_moved}
-use Rattle.documents.proofs.Edits.{tried_acts, acts_tried}
+use Rattle.documents.proofs.Three.{Three, three_inserted, three_removed, three_seen, three_lengths, three_moved}
+use Rattle.documents.proofs.Edits.{acts_tried}
 use Rattle.documents.proofs.Rows.{Matched, Carries, zeros_matched, carry_row}
-use Rattle.documents.proofs.Sound.{Sound, Taken, own, At, placed, sound_placed, Found, found, applies_at}
+use Rattle.documents.proofs.Sound.{Sound, Taken, own, At, placed, sound_placed, found, applies_at}
 
 -- a change told to a document acts there as the change itself
 told_acts : {X : Type 0} (F : Form X) (ks : ℕ → Kind) (p c : ℕ) (g : Change) (xs : List X) (y : List ℕ) (w : ℕ) →

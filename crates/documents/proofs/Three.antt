@@ -1,5 +1,5 @@
 -- Three lists of one length whose items stand in a relation, place by place.
-use Rattle.std.proofs.Common.{◌≡◌, ℕ, zero, suc, ◌+◌, ◌<◌, ◌≤◌, List, [], ◌∷◌, ◌++◌, length, get_or, take, drop, set, Some, None, Option, sym, refl, ap, ◌∙◌, subst, arith}
+use Rattle.std.proofs.Common.{◌≡◌, ℕ, zero, suc, ◌<◌, List, [], ◌∷◌, length, set, Some, refl, ap, arith}
 use Rattle.std.specs.List.{insert, remove}
 use Rattle.documents.specs.Documents.{item, moved}
 use Rattle.documents.proofs.Places.{moved_is}

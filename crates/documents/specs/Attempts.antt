@@ -1,5 +1,5 @@
 -- A pair at work: what it answers to an attempt, and the state that it is then in.
-use Rattle.std.specs.Prelude.{ℕ, Bool, true, false, List, [], ◌∷◌, length, Some, None, Ok, Err, Option, Result, nat_le, nat_lt, slice_index, slice_set}
+use Rattle.std.specs.Prelude.{ℕ, List, [], ◌∷◌, length, Ok, Err, Result, nat_le, nat_lt, slice_index, slice_set}
 use Rattle.std.specs.List.{insert as inserted, remove}
 use Rattle.kinds.specs.Answers.{◌>>=◌, test, need}
 use Rattle.kinds.specs.Kinds.{apply}

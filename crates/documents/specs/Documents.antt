@@ -1,5 +1,5 @@
 -- The two documents, where records stand in them, and what an edit makes of each.
-use Rattle.std.specs.Prelude.{◌≡◌, ℕ, zero, suc, ◌<◌, ◌≤◌, Bool, true, false, cond, List, [], ◌∷◌, map, length, take, Some, None, Ok, Option, nat_lt, slice_index, slice_set}
+use Rattle.std.specs.Prelude.{◌≡◌, ℕ, zero, suc, ◌<◌, ◌≤◌, cond, List, [], ◌∷◌, map, length, take, Some, None, Ok, Option, nat_lt, slice_index, slice_set}
 use Rattle.std.specs.List.{insert as inserted, remove}
 use Rattle.kinds.specs.declared.kind.Kind.{Kind}
 use Rattle.kinds.specs.declared.side.Side.{Side}

@@ -1,9 +1,9 @@
 -- What is read of a frame is held by its bytes.
-use Rattle.std.proofs.Common.{◌≡◌, ℕ, zero, suc, ◌+◌, ◌^◌, ◌<◌, ◌≤◌, Bool, true, false, cond, ◌&&◌, eqb, leb, List, length, get_or, drop, ℤ, pos, negsuc, IfOk, Ok, Err, Result, sym, refl, ap, ◌∙◌, subst, arith, length-drop, w8, w32, Fits, SFits, to_z}
+use Rattle.std.proofs.Common.{◌≡◌, ℕ, zero, suc, ◌+◌, ◌^◌, ◌<◌, Bool, true, false, cond, ◌&&◌, eqb, leb, List, length, drop, pos, negsuc, IfOk, Ok, Err, Result, sym, refl, ap, subst, arith, length-drop, w8, w32, Fits, SFits, to_z}
 use mir.Facts.{sfits_to_z}
 use Rattle.std.proofs.lemmas.Bool.{cond_both, leb-true, and_parts}
 use Rattle.kinds.specs.Answers.{◌>>=◌, test}
-use Rattle.kinds.specs.Changes.{plain, plain_add}
+use Rattle.kinds.specs.Changes.{plain}
 use Rattle.kinds.specs.declared.change.Change.{Change}
 use Rattle.kinds.specs.declared.change.Change.TheVariants.{Keep, Add, Set, Mask}
 use Rattle.kinds.specs.declared.side.Side.{Side}
@@ -12,7 +12,7 @@ use Rattle.frames.specs.declared.frame.Frame.{Frame}
 use Rattle.frames.specs.declared.refusal.FrameRefusal.{FrameRefusal}
 use Rattle.frames.specs.declared.refusal.FrameRefusal.TheVariants.{WrongLength, UnknownSide, UnknownOperation, RemarkFromTable, UnprintableText, UnknownChange, KeepWithOperand}
 use Rattle.frames.specs.Refusals.{frame_number}
-use Rattle.frames.specs.Edits.{Edit, keep, insert, remark, delete, move, change, edit}
+use Rattle.frames.specs.Edits.{Edit, keep, insert, remark, delete, move, change}
 use Rattle.frames.specs.Frames.{byte, two_bytes, four_bytes, letter, side, sized, printable, remark_in, remark_from, change_in, alteration_in, edit_in, frame, said}
 use Rattle.frames.specs.Laws.{Operand, Held, Sound}
 

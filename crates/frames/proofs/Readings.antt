@@ -1,12 +1,10 @@
 -- What the tests of a line come to.
-use Rattle.std.proofs.Common.{◌≡◌, ℕ, ◌<◌, ◌≤◌, Bool, true, false, leb, ◌↔◌, List, ◌++◌, length, take, drop, is_some, Some, None, Ok, Err, Option, Result, sym, refl, ap, ◌∙◌, subst, arith}
+use Rattle.std.proofs.Common.{◌≡◌, ℕ, ◌<◌, ◌≤◌, true, false, List, ◌++◌, length, take, drop, is_some, Some, None, Ok, Err, Option, sym, refl, ap, ◌∙◌, subst, arith}
 use Rattle.std.proofs.lemmas.List.{take_at}
 use Rattle.std.proofs.lemmas.Bool.{le-leb, lt-leb, true≢false}
-use Rattle.frames.specs.declared.line.LogLine.{LogLine}
 use Rattle.frames.specs.declared.line.LogLine.TheVariants.{Bytes}
-use Rattle.frames.specs.declared.refusal.LineRefusal.{LineRefusal}
 use Rattle.frames.specs.declared.refusal.LineRefusal.TheVariants.{NotHexadecimal, ShortBuffer}
-use Rattle.frames.specs.Lines.{bytes_of, is_skipped, line_bytes, answer, written, Spells, Spelled, Refusals}
+use Rattle.frames.specs.Lines.{bytes_of, is_skipped, line_bytes, answer, written, Spells, Refusals}
 use Rattle.frames.proofs.Digits.{length_pairs, none_from, spelt_is, spells_back}
 
 some_from : {X : Type 0} (o : Option X) → is_some o ≡ true → (x : X) × (o ≡ Some x)

@@ -1,5 +1,5 @@
 -- Every change whose numbers fit can be said by a frame.
-use Rattle.std.proofs.Common.{◌≡◌, ℕ, zero, suc, ◌+◌, ◌*◌, ◌/◌, ◌%◌, ◌^◌, ◌<◌, List, [], ◌∷◌, ◌++◌, length, get_or, ℤ, Ok, Err, refl, ap, ◌∙◌, arith, to_z-of_z, w32, Fits, SFits, to_z, of_z}
+use Rattle.std.proofs.Common.{◌≡◌, ℕ, ◌+◌, ◌*◌, ◌/◌, ◌%◌, ◌^◌, ◌<◌, List, [], ◌∷◌, Ok, refl, ap, ◌∙◌, arith, to_z-of_z, w32, to_z, of_z}
 use Prim.Native.String.{String}
 use mir.Facts.{Fits-of_z}
 use Rattle.kinds.specs.Answers.{◌>>=◌}

@@ -1,5 +1,5 @@
 -- The plain changes of each letter as a monoid that acts on values: to keep is to add 0, or to write under an empty mask.
-use Rattle.std.proofs.Common.{◌≡◌, ℕ, zero, suc, ◌+◌, ◌<◌, ◌≤◌, true, cond, leb, ◌⊎◌, ℤ, pos, negsuc, ◌+ℤ◌, nat_abs, Some, None, Option, sym, refl, ap, ◌∙◌, ap₂, inl, inr, arith}
+use Rattle.std.proofs.Common.{◌≡◌, ℕ, zero, suc, ◌<◌, ◌≤◌, true, cond, leb, ◌⊎◌, ℤ, pos, negsuc, ◌+ℤ◌, nat_abs, Some, None, Option, sym, refl, ap, ◌∙◌, ap₂, inl, inr, arith}
 use lib.Bits.{bit_and, bit_or}
 use Rattle.std.proofs.lemmas.Int.{ints}
 use Rattle.std.proofs.lemmas.Bool.Decides.{nat_tests, leb_tells}

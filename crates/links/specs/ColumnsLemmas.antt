@@ -7,11 +7,11 @@ use Rattle.links.specs.declared.row.Row.{Row}
 use Rattle.kinds.specs.declared.side.Side.{Side}
 use Rattle.kinds.specs.declared.side.Side.TheVariants.{Left, Right}
 use Rattle.links.specs.declared.refusal.CarryRefusal.TheVariants.{NotOfKind}
-use Rattle.links.specs.Laws.{Carried, sent, refused, Way, Lens, from, Sends, Lawful}
+use Rattle.links.specs.Laws.{sent, refused, Lens, from, Sends, Lawful}
 use Rattle.links.specs.Layers.{put}
 use Rattle.links.specs.Columns.{Columns, column, column_way, LawfulRow, InColumn, row, four}
 use Rattle.links.specs.TranslationsLemmas.{never_sent}
-use Rattle.links.specs.Parts.{put_out, whole, whole_sends}
+use Rattle.links.specs.Parts.{put_out, whole_sends}
 
 -- a part of a row, as a link of the whole row
 abbrev part : {S R : Type 0} → (R → S) → (R → S → R) → (R → R) → Lens S → Lens R

@@ -1,5 +1,5 @@
 -- A link turned round is lawful.
-use Rattle.std.specs.Prelude.{◌≡◌, refl}
+use Rattle.std.specs.Prelude.{refl}
 use Rattle.std.proofs.Common.{ap}
 use Rattle.links.specs.declared.flip.Flip.{Flip}
 use Rattle.kinds.specs.declared.side.Side.TheVariants.{Left, Right}

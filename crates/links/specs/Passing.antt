@@ -1,9 +1,9 @@
 -- Passing changes on in their plain form is lawful, for equal values of one kind.
-use Rattle.std.specs.Prelude.{◌≡◌, ℕ, true, Ok, refl}
-use Rattle.std.proofs.Common.{sym, ap, subst, ◌∙◌, arith}
+use Rattle.std.specs.Prelude.{◌≡◌, ℕ, refl}
+use Rattle.std.proofs.Common.{sym, ap, ◌∙◌, arith}
 use Rattle.kinds.specs.declared.kind.Kind.{Kind}
 use Rattle.kinds.specs.Kinds.{blank, apply}
-use Rattle.links.specs.Laws.{Way, Sends}
+use Rattle.links.specs.Laws.{Sends}
 use Rattle.links.specs.Translations.{translated}
 use Rattle.links.specs.TranslationsLemmas.{Translates, translation_sends}
 

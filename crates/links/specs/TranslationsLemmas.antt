@@ -1,5 +1,5 @@
 -- Carrying that changes no memory is lawful where the translation respects applying and folding.
-use Rattle.std.specs.Prelude.{◌≡◌, ℕ, ◌≤◌, Bool, true, false, cond, Some, Ok, Err, ◌≢◌, refl}
+use Rattle.std.specs.Prelude.{◌≡◌, ℕ, Bool, true, false, cond, Some, Ok, Err, ◌≢◌, refl}
 use Rattle.std.proofs.Common.{sym, ap, subst, ◌∙◌, arith}
 use Rattle.kinds.specs.declared.kind.Kind.{Kind}
 use Rattle.kinds.specs.declared.change.Change.{Change}
@@ -9,7 +9,7 @@ use Rattle.kinds.specs.Kinds.{of_kind, apply, fold}
 use Rattle.links.specs.declared.refusal.CarryRefusal.{CarryRefusal}
 use Rattle.links.specs.declared.refusal.CarryRefusal.TheVariants.{NotOfKind}
 use Rattle.kinds.specs.declared.side.Side.TheVariants.{Left, Right}
-use Rattle.links.specs.Laws.{Carried, sent, refused, Way, Lens, from, Sends, Lawful}
+use Rattle.links.specs.Laws.{sent, refused, Way, from, Sends, Lawful}
 use Rattle.links.specs.Translations.{admitted, translated, Related, memoryless}
 use Rattle.kinds.specs.Kinds.{after}
 use Rattle.kinds.proofs.Actions.{plain_twice, Action, both, change, Small, change_plain}

@@ -12,17 +12,17 @@ use Rattle.std.proofs.lemmas.Bool.{leb-true, le-leb}
 use Rattle.kinds.specs.declared.kind.Letter.TheVariants.{Amount}
 use Rattle.kinds.specs.declared.kind.Kind.{Kind}
 use Rattle.kinds.specs.declared.change.Change.{Change}
-use Rattle.kinds.specs.declared.change.Change.TheVariants.{Keep, Add, Set, Mask}
+use Rattle.kinds.specs.declared.change.Change.TheVariants.{Add}
 use Rattle.kinds.specs.Changes.{plain}
 use Rattle.kinds.specs.Kinds.{after, of_kind, apply, fold}
 use Rattle.kinds.proofs.Same.{kind_same}
-use Rattle.kinds.proofs.Actions.{Action, amount, both, change, Small, change_plain, plain_twice, within_some, some_within, after_add}
+use Rattle.kinds.proofs.Actions.{Action, amount, both, change, Small, plain_twice, within_some, some_within, after_add}
 use Rattle.kinds.proofs.Folding.{applied, applies, kind_action, action_kind, fold_action, folds_act}
 use Rattle.supplied.specs.declared.carry.Carry.{Carry}
 use Rattle.links.specs.declared.refusal.CarryRefusal.{CarryRefusal}
 use Rattle.links.specs.declared.refusal.CarryRefusal.TheVariants.{NotOfKind, NoTranslation}
 use Rattle.kinds.specs.declared.side.Side.TheVariants.{Left, Right}
-use Rattle.links.specs.Laws.{Carried, sent, refused, Lens, from, Sends, Lawful}
+use Rattle.links.specs.Laws.{sent, refused, from, Sends, Lawful}
 use Rattle.links.specs.Translations.{admitted, Related}
 use Rattle.supplied.specs.Carries.{floor, remainder, RoundsDown, remainder_below, added, amounts, many_small, lots_small, many, lots, with_rest, split_up, carrying}
 use Rattle.links.specs.Rules.{keep_of_kind}

@@ -1,12 +1,12 @@
 -- The link to the low bits of flags is lawful.
-use Rattle.std.specs.Prelude.{◌≡◌, ℕ, ◌-◌, ◌%◌, ◌^◌, ◌≤◌, Some, bit_and, bit_or, bit_xor, refl}
-use Rattle.std.proofs.Common.{sym, ap, ap₂, subst, ◌∙◌, inl, inr, mod-eq_of_lt, arith, pow_mono}
+use Rattle.std.specs.Prelude.{◌≡◌, ℕ, ◌%◌, ◌^◌, ◌≤◌, Some, bit_and, bit_or, bit_xor, refl}
+use Rattle.std.proofs.Common.{sym, ap, ap₂, ◌∙◌, inl, inr, mod-eq_of_lt, arith, pow_mono}
 use mathlib.Core.HLevel.{is_prop→PathP}
 use Rattle.std.proofs.Math.Bridge.{le_prop}
 use Rattle.std.proofs.Math.Nat.{zero-mod}
 use Rattle.std.proofs.lemmas.Nat.{pow_pos, mod_below, and_mod, or_mod, xor_mod}
 use Rattle.kinds.specs.declared.kind.Letter.TheVariants.{Flags}
-use Rattle.kinds.specs.declared.change.Change.TheVariants.{Keep, Mask}
+use Rattle.kinds.specs.declared.change.Change.TheVariants.{Mask}
 use Rattle.kinds.specs.Changes.{plain}
 use Rattle.kinds.specs.Kinds.{without, after}
 use Rattle.kinds.proofs.Actions.{Action, flags, both, change, Small, mask_plain, after_mask}

@@ -1,5 +1,5 @@
 -- The links that have no memory are lawful.
-use Rattle.std.specs.Prelude.{◌≡◌, ℕ, zero, suc, ◌-◌, ◌%◌, ◌<◌, ◌≤◌, Bool, true, ◌&&◌, ◌⊎◌, Some, Ok, ◌==◌, nat_lt, refl}
+use Rattle.std.specs.Prelude.{◌≡◌, ℕ, zero, suc, ◌-◌, ◌%◌, ◌<◌, ◌≤◌, Bool, true, ◌&&◌, ◌⊎◌, Some, ◌==◌, nat_lt, refl}
 use Rattle.std.proofs.Common.{sym, ap, subst, ◌∙◌, inl, inr, arith, pow_mono}
 use Rattle.std.proofs.Math.Nat.{div-eq_of_lt}
 use Rattle.std.proofs.lemmas.Bool.{leb-true, cases_lt}
@@ -8,7 +8,7 @@ use Rattle.std.proofs.lemmas.Bool.Decides.{Decides-below_and, Decides-and, Decid
 use Rattle.kinds.specs.declared.kind.Letter.TheVariants.{Choice}
 use Rattle.kinds.specs.declared.kind.Kind.{Kind}
 use Rattle.kinds.specs.declared.change.Change.{Change}
-use Rattle.kinds.specs.declared.change.Change.TheVariants.{Keep, Add, Set, Mask}
+use Rattle.kinds.specs.declared.change.Change.TheVariants.{Keep, Set}
 use Rattle.kinds.specs.Changes.{plain}
 use Rattle.kinds.specs.Kinds.{blank, fits, of_kind, after, apply, fold}
 use Rattle.links.specs.Laws.{Lawful, AgreeBy}

@@ -1,4 +1,4 @@
-use Rattle.std.proofs.Common.{◌<◌, ◌≤◌, length, sym, ap, arith}
+use Rattle.std.proofs.Common.{◌≤◌, length, sym, ap, arith}
 use Rattle.frames.proofs.Readings as readings
 use Rattle.frames.specs.Lines.{answer, written}
 use Rattle.frames.proofs.line.read_line.Goals as goal

@@ -1,4 +1,4 @@
-use Rattle.std.proofs.Common.{◌≡◌, ◌≤◌, Ok, sym, ap, ◌∙◌, rules}
+use Rattle.std.proofs.Common.{◌≤◌, Ok, sym, ap, ◌∙◌, rules}
 use Rattle.links.specs.Translations.{admitted}
 use Rattle.links.specs.TranslationsLemmas.{admitted_out}
 use Rattle.supplied.specs.MemorylessLemmas.{label_small}

@@ -1,4 +1,4 @@
-use Rattle.std.proofs.Common.{◌≡◌, ◌^◌, ◌<◌, pos, ◌+ℤ◌, Err, sym, refl, ap, ◌∙◌, w32, w64, SFits, rules}
+use Rattle.std.proofs.Common.{◌^◌, ◌<◌, pos, ◌+ℤ◌, Err, sym, refl, ap, ◌∙◌, w32, w64, SFits, rules}
 use Rattle.std.proofs.lemmas.Result.{err_from_is_err_and}
 use Rattle.links.specs.Laws.{answer, link_after}
 use Rattle.supplied.specs.Carries.{remainder, lots_small}
