@@ -3,7 +3,7 @@ use Rattle.std.proofs.Common.{◌≡◌, ℕ, ◌+◌, ◌*◌, ◌/◌, ◌%◌
 use Prim.Native.String.{String}
 use mir.Facts.{Fits-of_z}
 use Rattle.kinds.specs.Answers.{◌>>=◌}
-use Rattle.std.specs.List.{AllByRecursion as All}
+use Rattle.std.specs.List.{AllByRecursion}
 use Rattle.kinds.specs.Changes.{plain}
 use Rattle.kinds.specs.declared.change.Change.{Change}
 use Rattle.kinds.specs.declared.change.Change.TheVariants.{Keep, Add, Set, Mask}
@@ -18,7 +18,7 @@ side_letter Left = letter "L"
 side_letter Right = letter "R"
 
 abbrev Bytes : List ℕ → Type 0
-Bytes xs = All (λ b. b < 256) xs
+Bytes xs = AllByRecursion (λ b. b < 256) xs
 
 two_is : (n : ℕ) → n / 256 * 256 + n % 256 ≡ n
 two_is n = omega arith

@@ -1,7 +1,7 @@
 -- What holds of every frame, above its definition.
 use Rattle.std.specs.Prelude.{◌≡◌, ℕ, ◌^◌, ◌<◌, ◌≤◌, true, List, length, drop, Ok, Err, Result, FitsSigned}
 use Rattle.std.specs.Int.{w32}
-use Rattle.std.specs.List.{AllByRecursion as All}
+use Rattle.std.specs.List.{AllByRecursion}
 use Rattle.kinds.specs.Changes.{plain}
 use Rattle.kinds.specs.declared.change.Change.{Change}
 use Rattle.kinds.specs.declared.change.Change.TheVariants.{Keep, Add, Set, Mask}
@@ -35,7 +35,7 @@ Sound bytes (Err e) = frame_number e ≡ 4
 
 -- these bytes say the change there, from that side
 pub record Says (s : Side) (at column : ℕ) (e : Change) (bytes : List ℕ) : Type 0 where
-  pub are_bytes : All (λ b. b < 256) bytes
+  pub are_bytes : AllByRecursion (λ b. b < 256) bytes
   pub read : frame bytes ≡ Ok (s, change at column e)
 
 -- Every change whose numbers fit can be said, from each side, at each position and in each column that a frame can name.

@@ -1,7 +1,7 @@
 -- What a copy of a part of the table by one slot does to the items in front of it.
 use Rattle.std.proofs.Common.{◌≡◌, ℕ, ◌+◌, ◌-◌, ◌<◌, ◌≤◌, min, List, ◌++◌, length, get_or, take, drop, set, sym, ap, ◌∙◌, ⊎_elim, add-one, arith, rules}
 use lib.Seq.{paste, take-length, take-set-lt}
-use Rattle.std.specs.List.{insert, remove, AllByRecursion as All}
+use Rattle.std.specs.List.{insert, remove, AllByRecursion}
 use Rattle.std.proofs.lemmas.List.{places, same_lists, get_or-take, get_or-set_same, set_split, take_all, length-take}
 use Rattle.std.proofs.ByRecursion.{All-append, All-take, All-drop}
 use Rattle.std.proofs.lemmas.Bool.{cases_lt, cases_eq}
@@ -17,7 +17,7 @@ take_min n xs =
     (cases_lt n (length xs))
 
 -- what holds of each slot holds of each after a part of the table is copied to another place
-pub all_copied : {X : Type 0} (P : X → Type 0) (xs : List X) (a b n : ℕ) → All P xs → All P (paste xs a (drop b xs) n)
+pub all_copied : {X : Type 0} (P : X → Type 0) (xs : List X) (a b n : ℕ) → AllByRecursion P xs → AllByRecursion P (paste xs a (drop b xs) n)
 all_copied P xs a b n h =
     All-append P _ _ (All-append P _ _ (All-take P a xs h) (All-take P n _ (All-drop P b xs h))) (All-drop P (a + n) xs h)
 

@@ -1,6 +1,6 @@
 -- What a caller may conclude from the contract of an edit.
 use Rattle.std.proofs.Common.{◌≡◌, ℕ, ◌<◌, ◌≤◌, List, ◌∷◌, ◌++◌, length, get_or, take, drop, set, Ok, Err, Result, sym, ap, subst, ⊎_elim, arith}
-use Rattle.std.specs.List.{insert, remove, AllByRecursion as All}
+use Rattle.std.specs.List.{insert, remove, AllByRecursion}
 use Rattle.std.proofs.lemmas.List.{drop_more, length-append, length-take, length-drop}
 use Rattle.std.proofs.ByRecursion.{All-weaker, all-has, all_has_itself}
 use Rattle.slots.specs.declared.list.SlotList.{SlotList}
@@ -8,7 +8,7 @@ use Rattle.slots.specs.declared.refusal.Refusal.{Refusal}
 use Rattle.slots.specs.Slots.{table, items, count, room, moved, Among, Edited, Sets, Inserts, Removes, Moves}
 
 -- what holds of each slot before, and of what is put in, holds of each slot after
-pub all_among : {X : Type 0} (P : X → Type 0) (xs ys : List X) → Among xs ys → All P xs → All P ys
+pub all_among : {X : Type 0} (P : X → Type 0) (xs ys : List X) → Among xs ys → AllByRecursion P xs → AllByRecursion P ys
 all_among P xs ys among all = All-weaker _ P (λ x h. all-has P xs x all h) ys among
 
 -- where each slot of t comes from, whatever was answered

@@ -1,6 +1,6 @@
 -- A list over a lent table: its items, the answer of each call, and what each call leaves in the table.
 use Rattle.std.specs.Prelude.{◌≡◌, ℕ, ◌<◌, ◌≤◌, ◌⊎◌, List, ◌∷◌, ◌++◌, length, take, drop, Ok, Err, Result, slice_index_or, slice_set}
-use Rattle.std.specs.List.{ContainsAt as Has, insert, remove, AllByRecursion as All}
+use Rattle.std.specs.List.{ContainsAt, insert, remove, AllByRecursion}
 use Rattle.slots.specs.declared.list.SlotList.{SlotList}
 use Rattle.slots.specs.declared.refusal.Refusal.{Refusal}
 use Rattle.slots.specs.declared.refusal.Refusal.TheVariants.{NotInList, Full}
@@ -27,7 +27,7 @@ moved xs from to = take to (remove xs from) ++ (take 1 (drop from xs) ++ drop to
 
 -- each of ys is one of xs
 abbrev pub Among : {X : Type 0} → List X → List X → Type 0
-Among xs ys = All (Has xs) ys
+Among xs ys = AllByRecursion (ContainsAt xs) ys
 
 -- the list s became t: it holds xs in the same table, where each slot holds one of `source`
 pub record Edited {X : Type 0} (s : SlotList X) (xs source : List X) (t : SlotList X) : Type 0 where

@@ -3,10 +3,10 @@ use Rattle.pair.proofs.States.{same_state}
 use Rattle.pair.proofs.Kept.{added}
 use Rattle.pair.proofs.pair.Pair.add.Goals as goal
 
-pub invariant-of-self : goal.invariant-of-self
-invariant-of-self g c =
+pub invariant_of-self : goal.invariant_of-self
+invariant_of-self g c =
     let e = added c.args.self.now _ _ _ c.args.p c.args.j c.requires.record c.insert.result c.insert-2.result c.insert-3.result _ _ _ c.requires.place c.requires.room c.insert.ensures c.insert-2.ensures c.insert-3.ensures in
-    (e.counted, (e.linked, (e.roomy, tt)))
+    record { counted = e.counted; linked = e.linked; roomy = e.roomy }
 
 pub returns : goal.returns
 returns g c =

@@ -3,10 +3,10 @@ use Rattle.pair.proofs.States.{same_state}
 use Rattle.pair.proofs.Kept.{noted}
 use Rattle.pair.proofs.pair.Pair.add_remark.Goals as goal
 
-pub invariant-of-self : goal.invariant-of-self
-invariant-of-self g c =
+pub invariant_of-self : goal.invariant_of-self
+invariant_of-self g c =
     let e = noted c.args.self.now _ c.args.p c.args.remark c.insert.result c.requires.place c.requires.room c.insert.ensures in
-    (e.counted, (e.linked, (e.roomy, tt)))
+    record { counted = e.counted; linked = e.linked; roomy = e.roomy }
 
 pub returns : goal.returns
 returns g c =

@@ -10,17 +10,17 @@ returns-then-q-p g c =
     let e = c.records_before.ensures.value ∙ sym (before_removed (state s).lines c.args.p c.args.q c.requires.record (omega arith)) in
     record { value = e; below = omega (arith, e, before_removed_below (state s).lines c.args.p c.args.q c.requires.record, s.counted) }
 
-pub overflow-sub-result : goal.overflow-sub-result
-overflow-sub-result g c =
+pub overflow_sub-result : goal.overflow_sub-result
+overflow_sub-result g c =
     let s = c.args.self.now in
     let i : c.min.result ≡ c.args.q + 1 = omega arith in
-    let e = c.records-before-else-q-p.ensures.value ∙ ap (λ n. records_before n (state s).lines) i in
+    let e = c.records_before-else-q-p.ensures.value ∙ ap (λ n. records_before n (state s).lines) i in
     omega (arith, e, before_removed_past (state s).lines c.args.p c.args.q c.requires.record (omega arith))
 
 pub returns-else-q-p : goal.returns-else-q-p
 returns-else-q-p g c =
     let s = c.args.self.now in
     let i : c.min.result ≡ c.args.q + 1 = omega arith in
-    let e = c.records-before-else-q-p.ensures.value ∙ ap (λ n. records_before n (state s).lines) i in
+    let e = c.records_before-else-q-p.ensures.value ∙ ap (λ n. records_before n (state s).lines) i in
     let h = before_removed_past (state s).lines c.args.p c.args.q c.requires.record (omega arith) in
     record { value = omega (arith, e, h); below = omega (arith, e, h, before_removed_below (state s).lines c.args.p c.args.q c.requires.record, s.counted) }

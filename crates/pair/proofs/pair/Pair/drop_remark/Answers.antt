@@ -3,10 +3,10 @@ use Rattle.pair.proofs.States.{same_state}
 use Rattle.pair.proofs.Kept.{dropped}
 use Rattle.pair.proofs.pair.Pair.drop_remark.Goals as goal
 
-pub invariant-of-self : goal.invariant-of-self
-invariant-of-self g c =
+pub invariant_of-self : goal.invariant_of-self
+invariant_of-self g c =
     let e = dropped c.args.self.now _ c.args.p c.remove.result c.requires.place c.requires.line c.remove.ensures in
-    (e.counted, (e.linked, (e.roomy, tt)))
+    record { counted = e.counted; linked = e.linked; roomy = e.roomy }
 
 pub returns : goal.returns
 returns g c =

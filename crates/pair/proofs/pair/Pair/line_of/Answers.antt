@@ -5,7 +5,7 @@ use Rattle.documents.specs.Documents.{line, line_of}
 use Rattle.pair.specs.Written.{written}
 use Rattle.pair.proofs.Finding.{line_here, line_past, line_over, line_none, line_of_is}
 use Rattle.pair.proofs.pair.Pair.line_of.Goals as goal
-use Rattle.pair.proofs.pair.Pair.line_of.Goals.{then-is-record+else-left-eq0, else-is-record}
+use Rattle.pair.proofs.pair.Pair.line_of.Goals.{then-is_record+else-left-eq0, else-is_record}
 
 pub returns-then-left-eq0 : goal.returns-then-left-eq0
 returns-then-left-eq0 g c =
@@ -19,9 +19,9 @@ loop-i-preserved g c =
     let ls = written (items c.args.self.now.lines) in
     let i = c.loop-i.i in
     let lt : i < length ls = omega (arith, length-map (items c.args.self.now.lines) line) in
-    elim c.if-is-record.branch [
-      | then-is-record+else-left-eq0 w ↦ rw w.left-is (omega (arith, c.loop-i.invariant, line_past ls i c.loop-i.left (search rules) (omega arith)))
-      | else-is-record w ↦ rw w.left-is (omega (arith, c.loop-i.invariant, line_over ls i c.loop-i.left lt (search rules)))
+    elim c.if-is_record.branch [
+      | then-is_record+else-left-eq0 w ↦ rw w.left-is (omega (arith, c.loop-i.invariant, line_past ls i c.loop-i.left (search rules) (omega arith)))
+      | else-is_record w ↦ rw w.left-is (omega (arith, c.loop-i.invariant, line_over ls i c.loop-i.left lt (search rules)))
     ]
 
 pub returns : goal.returns

@@ -3,10 +3,10 @@ use Rattle.pair.proofs.States.{same_state}
 use Rattle.pair.proofs.Kept.{put_in_place}
 use Rattle.pair.proofs.pair.Pair.place.Goals as goal
 
-pub invariant-of-self : goal.invariant-of-self
-invariant-of-self g c =
+pub invariant_of-self : goal.invariant_of-self
+invariant_of-self g c =
     let e = put_in_place c.args.self.now _ _ _ c.args.p c.args.j c.requires.record c.set.result c.set-2.result c.set-3.result _ _ _ c.requires.line c.set.ensures c.set-2.ensures c.set-3.ensures in
-    (e.counted, (e.linked, (e.roomy, tt)))
+    record { counted = e.counted; linked = e.linked; roomy = e.roomy }
 
 pub returns : goal.returns
 returns g c =

@@ -5,5 +5,5 @@ use Rattle.pair.proofs.pair.Pair.place_for.Goals as goal
 
 pub returns : goal.returns
 returns g c =
-    let e = c.line-of.ensures in
+    let e = c.line_of.ensures in
     record { value = e.value ∙ sym (place_is_line (state c.args.self.now).lines c.args.j); within = e.within; number = e.number }

@@ -1,5 +1,5 @@
 use Rattle.std.proofs.Common.{◌+◌, ◌-◌, ◌∷◌, refl, arith, rules}
-use Rattle.std.specs.List.{ContainsAt as Has}
+use Rattle.std.specs.List.{ContainsAt}
 use Rattle.std.proofs.lemmas.List.{places}
 use Rattle.std.proofs.ByRecursion.{All-set, all_has_itself}
 use Rattle.slots.proofs.Shifts.{inserts, all_copied}
@@ -17,6 +17,6 @@ returns g c =
         items_are = simp (c.len-len.ensures.front, c.copy_within.ensures.after) (inserts xs n c.args.at x (omega arith) (omega arith));
         same_room = search (rules, places);
         same_lender = refl;
-        slots_among = simp c.copy_within.ensures.after (All-set (Has (x ∷ xs)) _ c.args.at x has.0 (all_copied _ xs (c.args.at + 1) c.args.at (n - c.args.at) has.1));
+        slots_among = simp c.copy_within.ensures.after (All-set (ContainsAt (x ∷ xs)) _ c.args.at x has.0 (all_copied _ xs (c.args.at + 1) c.args.at (n - c.args.at) has.1));
       },
     )

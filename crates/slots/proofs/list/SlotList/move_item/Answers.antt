@@ -1,6 +1,6 @@
 use Rattle.std.proofs.Common.{◌≡◌, ℕ, ◌+◌, ◌-◌, ◌<◌, ◌≤◌, length, get_or, drop, set, sym, refl, ap, ◌∙◌, subst, arith, rules}
 use lib.Seq.{paste}
-use Rattle.std.specs.List.{ContainsAt as Has}
+use Rattle.std.specs.List.{ContainsAt}
 use Rattle.std.proofs.lemmas.List.{places}
 use Rattle.std.proofs.ByRecursion.{All-set, All-get_or, all_has_itself}
 use Rattle.slots.specs.declared.list.SlotList.{SlotList}
@@ -20,7 +20,7 @@ edited s t from to a b m d la lb lf slots lender is =
       items_are = is;
       same_room = ap length slots ∙ search (rules, places);
       same_lender = lender;
-      slots_among = subst (Among xs) (sym slots) (All-set (Has xs) _ to _ (All-get_or (Has xs) xs from d lf all) (all_copied (Has xs) xs a b m all));
+      slots_among = subst (Among xs) (sym slots) (All-set (ContainsAt xs) _ to _ (All-get_or (ContainsAt xs) xs from d lf all) (all_copied (ContainsAt xs) xs a b m all));
     }
 
 pub returns : goal.returns

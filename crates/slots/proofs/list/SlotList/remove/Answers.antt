@@ -1,5 +1,5 @@
 use Rattle.std.proofs.Common.{◌+◌, ◌-◌, sym, refl, ◌∙◌, arith}
-use Rattle.std.specs.List.{ContainsAt as Has}
+use Rattle.std.specs.List.{ContainsAt}
 use Rattle.std.proofs.lemmas.List.{get_or_default, get_or-take}
 use Rattle.std.proofs.ByRecursion.{all_has_itself}
 use Rattle.slots.proofs.Shifts.{removes, all_copied}
@@ -16,6 +16,6 @@ returns g c =
         items_are = simp (c.len-len.ensures.front, c.copy_within.ensures.after) (removes xs n at (omega arith) (omega arith));
         same_room = c.copy_within.ensures.len;
         same_lender = refl;
-        slots_among = simp c.copy_within.ensures.after (all_copied (Has xs) xs at (at + 1) (n - (at + 1)) (all_has_itself xs));
+        slots_among = simp c.copy_within.ensures.after (all_copied (ContainsAt xs) xs at (at + 1) (n - (at + 1)) (all_has_itself xs));
       },
     )
