@@ -3,14 +3,14 @@ use Rattle.std.proofs.lemmas.Result.{err_from_is_err_and}
 use Rattle.pair.specs.State.{state, said}
 use Rattle.playback.specs.Days.{answer, state_then}
 use Rattle.playback.specs.States.{day}
-use Rattle.playback.proofs.Outcomes.{refusal_read, outcome_read, frame_is, frame_accepted, frame_refused, frame_leaves}
+use Rattle.playback.proofs.Outcomes.{refusal_read, skip_read, outcome_read, frame_is, frame_accepted, frame_refused, frame_leaves}
 use Rattle.playback.proofs.replay.Replay.try_line.Goals as goal
 
-pub returns-in-err-read-line : goal.returns-in-err-read-line
-returns-in-err-read-line g c =
+pub returns-in_err-read_line : goal.returns-in_err-read_line
+returns-in_err-read_line g c =
     let s = c.args.self.now in
-    let p = err_from_is_err_and c.from-residual.result c.from-residual.ensures.1 in
-    let a = refusal_read _ _ (sym c.in-err-read-line.was ∙ c.read-line.ensures.answers) in
+    let p = err_from_is_err_and c.from_residual.result c.from_residual.ensures.1 in
+    let a = refusal_read _ _ (sym c.in_err-read_line.was ∙ c.read_line.ensures.answers) in
     let o = outcome_read g.R.Rows.columns (day s) c.args.line.now (omega arith) _ a in
     rw (p.1, p.2) record {
       answers = sym (ap answer o);
@@ -21,14 +21,28 @@ returns-in-err-read-line g c =
       start_stays = refl;
     }
 
-pub returns-in-err-play : goal.returns-in-err-play
-returns-in-err-play g c =
+pub returns-in-Skipped : goal.returns-in-Skipped
+returns-in-Skipped g c =
     let s = c.args.self.now in
-    let p = err_from_is_err_and c.from-residual-in-err-play.result c.from-residual-in-err-play.ensures.1 in
-    let f = frame_is g.R.Rows.columns (day s) c.args.line.now (omega arith) _ c.read-line.new.buffer c.in-Bytes.count (sym (c.in-ok-read-line.was ∙ ap Ok c.in-Bytes.is) ∙ c.read-line.ensures.answers) c.read-line.ensures.writes in
+    let a = skip_read _ (sym (c.in_ok-read_line.was ∙ ap Ok c.in-Skipped.is) ∙ c.read_line.ensures.answers) in
+    let o = outcome_read g.R.Rows.columns (day s) c.args.line.now (omega arith) _ a in
+    record {
+      answers = sym (ap answer o);
+      leaves = sym (ap (state_then (state s.pair.now)) o);
+      lines_stay = refl;
+      accepted_stay = refl;
+      refused_stay = refl;
+      start_stays = refl;
+    }
+
+pub returns-in_err-play-in-Bytes : goal.returns-in_err-play-in-Bytes
+returns-in_err-play-in-Bytes g c =
+    let s = c.args.self.now in
+    let p = err_from_is_err_and c.from_residual-in_err-play-in-Bytes.result c.from_residual-in_err-play-in-Bytes.ensures.1 in
+    let f = frame_is g.R.Rows.columns (day s) c.args.line.now (omega arith) _ c.read_line.new.buffer c.in-Bytes.count (sym (c.in_ok-read_line.was ∙ ap Ok c.in-Bytes.is) ∙ c.read_line.ensures.answers) c.read_line.ensures.writes in
     let h = c.play.ensures in
     rw (p.1, p.2) record {
-      answers = frame_refused _ _ f _ (sym (ap said c.in-err-play.was) ∙ h.answers);
+      answers = frame_refused _ _ f _ (sym (ap said c.in_err-play-in-Bytes.was) ∙ h.answers);
       leaves = frame_leaves _ _ f _ (state c.play.new.self) h.leaves;
       lines_stay = refl;
       accepted_stay = refl;
@@ -36,13 +50,13 @@ returns-in-err-play g c =
       start_stays = refl;
     }
 
-pub returns-in-ok-play : goal.returns-in-ok-play
-returns-in-ok-play g c =
+pub returns-in_ok-play-in-Bytes : goal.returns-in_ok-play-in-Bytes
+returns-in_ok-play-in-Bytes g c =
     let s = c.args.self.now in
-    let f = frame_is g.R.Rows.columns (day s) c.args.line.now (omega arith) _ c.read-line.new.buffer c.in-Bytes.count (sym (c.in-ok-read-line.was ∙ ap Ok c.in-Bytes.is) ∙ c.read-line.ensures.answers) c.read-line.ensures.writes in
+    let f = frame_is g.R.Rows.columns (day s) c.args.line.now (omega arith) _ c.read_line.new.buffer c.in-Bytes.count (sym (c.in_ok-read_line.was ∙ ap Ok c.in-Bytes.is) ∙ c.read_line.ensures.answers) c.read_line.ensures.writes in
     let h = c.play.ensures in
     record {
-      answers = frame_accepted _ _ f _ (sym (ap said c.in-ok-play.was) ∙ h.answers);
+      answers = frame_accepted _ _ f _ (sym (ap said c.in_ok-play-in-Bytes.was) ∙ h.answers);
       leaves = frame_leaves _ _ f _ (state c.play.new.self) h.leaves;
       lines_stay = refl;
       accepted_stay = refl;
