@@ -1,5 +1,5 @@
 -- Reading a log in pieces: what happens at each line's end, and that pieces come to the same as the whole.
-use Rattle.std.specs.Prelude.{◌≡◌, ℕ, ◌≤◌, cond, List, [], ◌∷◌, ◌++◌, length, take, ◌==◌}
+use Rattle.std.specs.Prelude.{◌≡◌, ℕ, cond, List, [], ◌∷◌, ◌++◌, take, ◌==◌}
 use Rattle.logs.specs.Logs.{lines_of}
 
 -- A reader of lines: the state after a line, and what it says of the line.

@@ -1,7 +1,6 @@
 -- What a read of the lines tells of the sheet.
-use Rattle.std.proofs.Common.{◌≡◌, ℕ, zero, suc, ◌+◌, ◌-◌, ◌<◌, ◌≤◌, min, true, false, List, [], ◌∷◌, ◌++◌, map, length, get_or, take, drop, set, Some as some, None as none, Option, sym, refl, ap, ◌∙◌, ⊎_elim, add-one, sub-one, arith}
-use Rattle.std.specs.List.{insert, remove}
-use Rattle.std.proofs.lemmas.List.{take_all, drop_all, length-map, map-append, map-set}
+use Rattle.std.proofs.Common.{◌≡◌, ℕ, zero, suc, ◌+◌, ◌-◌, ◌<◌, ◌≤◌, min, true, false, List, [], ◌∷◌, map, length, get_or, drop, set, Some as some, None as none, Option, sym, refl, ap, ◌∙◌, ⊎_elim, add-one, sub-one, arith}
+use Rattle.std.proofs.lemmas.List.{take_all, drop_all, length-map}
 use Rattle.std.proofs.lemmas.Bool.{cases_lt}
 use Rattle.documents.specs.Documents.{Line, line, record_line, remark_line, item, records_of, records_before, line_of}
 use Rattle.documents.specs.Across.{is_record}

@@ -1,5 +1,5 @@
 -- What an edit of the three lists keeps, and what it makes of the sheet.
-use Rattle.std.proofs.Common.{◌≡◌, ℕ, zero, suc, ◌+◌, ◌<◌, ◌≤◌, true, false, List, [], ◌∷◌, ◌++◌, map, length, get_or, take, drop, set, Some as some, None as none, Ok, Err, Option, Result, sym, refl, ap, ◌∙◌, arith, length-set}
+use Rattle.std.proofs.Common.{◌≡◌, ℕ, zero, suc, ◌+◌, ◌<◌, ◌≤◌, true, false, List, [], ◌∷◌, length, take, drop, set, Some as some, Result, sym, refl, ap, ◌∙◌, arith, length-set}
 use lib.ListN.{length-map}
 use Rattle.std.specs.List.{insert, remove}
 use Rattle.std.proofs.lemmas.List.{take-map, drop-map, map-append, map-set}
@@ -8,7 +8,7 @@ use Rattle.slots.specs.declared.list.SlotList.{SlotList}
 use Rattle.slots.specs.declared.refusal.Refusal.{Refusal}
 use Rattle.slots.proofs.Slots.{sets_surely, inserts_surely, removes_surely}
 use Rattle.slots.specs.Slots.{items, room, Edited as ListEdited, Inserts, Sets, Removes}
-use Rattle.documents.specs.Documents.{Line, line, record_line, remark_line, item, records_of, records_before, zeros}
+use Rattle.documents.specs.Documents.{Line, line, record_line, remark_line, item, records_of, records_before}
 use Rattle.documents.specs.Across.{is_record}
 use Rattle.documents.proofs.Places.{before_within, records_inserted, remark_inserted, records_removed, remark_removed, record_below, record_set, item_below}
 use Rattle.documents.specs.declared.line.Line.{Line as StoredLine}

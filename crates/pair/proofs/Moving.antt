@@ -1,11 +1,11 @@
 -- Places once a record is gone, and what a move of the three lists keeps.
-use Rattle.std.proofs.Common.{◌≡◌, ℕ, zero, suc, ◌+◌, ◌-◌, ◌<◌, ◌≤◌, true, false, List, [], ◌∷◌, ◌++◌, map, length, get_or, Some as some, None as none, Ok, Err, Result, sym, refl, ap, ◌∙◌, add-one, arith}
+use Rattle.std.proofs.Common.{◌≡◌, ℕ, zero, suc, ◌+◌, ◌<◌, ◌≤◌, true, false, List, [], ◌∷◌, length, Result, sym, refl, ap, ◌∙◌, add-one, arith}
 use lib.ListN.{length-map}
 use Rattle.std.specs.List.{insert, remove}
-use Rattle.std.proofs.lemmas.List.Edits.{length-insert, length-remove}
+use Rattle.std.proofs.lemmas.List.Edits.{length-remove}
 use Rattle.slots.specs.declared.list.SlotList.{SlotList}
 use Rattle.slots.specs.declared.refusal.Refusal.{Refusal}
-use Rattle.slots.specs.Slots.{items, room, Moves}
+use Rattle.slots.specs.Slots.{items, Moves}
 use Rattle.slots.proofs.Slots.{moves_surely, moved_is as slots_moved_is}
 use Rattle.documents.specs.Documents.{Line, line, record_line, remark_line, item, moved, records_of, records_before, line_of}
 use Rattle.documents.specs.Across.{is_record}

@@ -1,5 +1,5 @@
 -- Two states with the same parts are the same.
-use Rattle.std.proofs.Common.{◌≡◌, ℕ, List, refl}
+use Rattle.std.proofs.Common.{◌≡◌, ℕ, List}
 use Rattle.documents.specs.Documents.{Line}
 use Rattle.documents.specs.Attempts.{State}
 

@@ -1,5 +1,5 @@
 -- A change of one cell of a row, and answers told at a position.
-use Rattle.std.specs.Prelude.{ℕ, List, Ok, Err, Option, Result, nat_lt, slice_index, slice_set}
+use Rattle.std.specs.Prelude.{ℕ, List, Ok, Err, Result, nat_lt, slice_index, slice_set}
 use Rattle.kinds.specs.Answers.{◌>>=◌, test, need}
 use Rattle.kinds.specs.Kinds.{apply}
 use Rattle.kinds.specs.declared.change.Change.{Change}

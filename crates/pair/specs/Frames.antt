@@ -1,5 +1,5 @@
 -- A frame that was read: what it says, and how long its text is.
-use Rattle.std.specs.Prelude.{ℕ, ◌≤◌, List, length, Result}
+use Rattle.std.specs.Prelude.{◌≤◌, length, Result}
 use Rattle.kinds.specs.declared.side.Side.{Side}
 use Rattle.frames.specs.declared.frame.Frame.{Frame}
 use Rattle.frames.specs.Edits.{Edit, keep, insert, remark, delete, move, change, edit}

@@ -2,16 +2,15 @@
 use Rattle.std.proofs.Common.{◌≡◌, ℕ, ◌+◌, ◌≤◌, min, false, cond, List, Some, None, Ok, Err, Option, Result, sym, refl, ap, ◌∙◌, arith}
 use Rattle.std.proofs.lemmas.Bool.{ltb-false}
 use Rattle.links.specs.Columns.{Columns}
-use Rattle.frames.specs.Edits.{Edit, edit}
+use Rattle.frames.specs.Edits.{Edit}
 use Rattle.documents.specs.Attempts.{State}
 use Rattle.pair.specs.Cells.{mapped}
-use Rattle.pair.specs.State.{state}
 use Rattle.playback.specs.declared.fault.Cause.{Cause}
 use Rattle.playback.specs.declared.played.Played.{Played}
 use Rattle.playback.specs.declared.played.Played.TheVariants.{Skipped, Accepted}
 use Rattle.playback.specs.declared.fault.LineFault.{LineFault}
 use Rattle.playback.specs.declared.replay.Replay.{Replay}
-use Rattle.playback.specs.Days.{Day, ended, outcome, counted, next, answer, state_then, number}
+use Rattle.playback.specs.Days.{Day, ended, outcome, counted, answer, state_then}
 use Rattle.playback.specs.States.{day, translation, told, Names, Tries, accepts, refuses, on_line, Counts, PlaysLine}
 
 same_day : {R : Type 0} (a b : Day R) → a.state ≡ b.state → a.lines ≡ b.lines → a.accepted ≡ b.accepted → a.refused ≡ b.refused → a ≡ b
@@ -49,11 +48,11 @@ plays_line row s u t line tried r on a b =
       answers = ap told b.answers ∙ told_on (u.lines + 1) tried ∙ a.answers;
       names = rw (b.answers, sym n) (names_on (u.lines + 1) tried);
       leaves =
-        same_day (day t) (counted (day s) (outcome row (day s) line))
-        (b.same_state ∙ a.leaves ∙ sym more.3)
-        (b.one_more ∙ ap (λ k. k + 1) a.lines_stay ∙ sym more.0)
-        (b.more_accepted ∙ ap (λ k. k + accepts tried) a.accepted_stay ∙ sym more.1)
-        (b.more_refused ∙ ap (λ k. k + refuses tried) a.refused_stay ∙ sym more.2)
-        ∙ sym (ap (λ e. cond e (day s) (counted (day s) (outcome row (day s) line))) on);
+          same_day (day t) (counted (day s) (outcome row (day s) line))
+          (b.same_state ∙ a.leaves ∙ sym more.3)
+          (b.one_more ∙ ap (λ k. k + 1) a.lines_stay ∙ sym more.0)
+          (b.more_accepted ∙ ap (λ k. k + accepts tried) a.accepted_stay ∙ sym more.1)
+          (b.more_refused ∙ ap (λ k. k + refuses tried) a.refused_stay ∙ sym more.2)
+          ∙ sym (ap (λ e. cond e (day s) (counted (day s) (outcome row (day s) line))) on);
       stays = b.same_start ∙ a.start_stays;
     }

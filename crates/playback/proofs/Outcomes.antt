@@ -1,12 +1,11 @@
 -- What a line comes to, by what its reading and the pair answer.
-use Rattle.std.proofs.Common.{◌≡◌, ℕ, ◌-◌, ◌<◌, ◌≤◌, true, false, ltb, List, ◌++◌, length, take, drop, Some, None, Ok, Err, Option, Result, sym, refl, ap, ◌∙◌, arith}
+use Rattle.std.proofs.Common.{◌≡◌, ℕ, ◌-◌, ◌<◌, ◌≤◌, List, ◌++◌, length, take, drop, Some, None, Ok, Err, Option, Result, sym, refl, ap, ◌∙◌, arith}
 use lib.Seq.{take-append_seam}
 use Rattle.std.proofs.lemmas.Bool.{lt-ltb, le-ltb}
 use Rattle.kinds.specs.Answers.{◌>>=◌, test}
 use Rattle.links.specs.Columns.{Columns}
 use Rattle.frames.specs.Edits.{Edit, edit}
 use Rattle.frames.specs.Lines.{line_bytes, answer as line_answer, written}
-use Rattle.frames.specs.declared.line.LogLine.{LogLine}
 use Rattle.frames.specs.declared.line.LogLine.TheVariants.{Skipped, Bytes}
 use Rattle.frames.specs.declared.refusal.LineRefusal.{LineRefusal}
 use Rattle.frames.specs.declared.frame.Operation.{Operation}
@@ -14,7 +13,7 @@ use Rattle.documents.specs.declared.fault.Fault.{Fault}
 use Rattle.documents.specs.Attempts.{State, attempt, answer as pair_answer, state_then as pair_state}
 use Rattle.pair.specs.State.{said}
 use Rattle.playback.specs.declared.fault.Cause.{Cause}
-use Rattle.playback.specs.declared.fault.Cause.TheVariants.{TooManyLines, Line, Frame}
+use Rattle.playback.specs.declared.fault.Cause.TheVariants.{TooManyLines, Frame}
 use Rattle.playback.specs.Days.{Day, read, taken, played, outcome, answer, state_then}
 
 -- the bytes that a line gives stand at the buffer's front

@@ -1,5 +1,5 @@
 -- A day's log, played line by line: what each line comes to, and what is counted.
-use Rattle.std.specs.Prelude.{◌≡◌, ℕ, ◌+◌, min, Bool, cond, List, [], ◌∷◌, ◌++◌, Some, None, Ok, Err, Option, Result, nat_lt}
+use Rattle.std.specs.Prelude.{ℕ, ◌+◌, min, Bool, cond, List, Some, None, Ok, Err, Option, Result, nat_lt}
 use Rattle.kinds.specs.Answers.{◌>>=◌, test}
 use Rattle.links.specs.Columns.{Columns}
 use Rattle.frames.specs.Edits.{Edit}

@@ -1,4 +1,4 @@
-use Rattle.std.proofs.Common.{◌≡◌, ◌<◌, length, sym, ap, ◌∙◌, arith, rules}
+use Rattle.std.proofs.Common.{◌≡◌, ◌<◌, length, arith, rules}
 use lib.ListN.{length-map}
 use Rattle.slots.specs.Slots.{items}
 use Rattle.documents.specs.Documents.{line, line_of}

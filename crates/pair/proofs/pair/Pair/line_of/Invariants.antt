@@ -1,4 +1,4 @@
-use Rattle.std.proofs.Common.{◌≡◌, ◌+◌, ◌≤◌, drop}
+use Rattle.std.proofs.Common.{◌≡◌, ◌+◌, drop}
 use Rattle.slots.specs.Slots.{items}
 use Rattle.documents.specs.Documents.{line_of}
 use Rattle.pair.specs.Written.{written}

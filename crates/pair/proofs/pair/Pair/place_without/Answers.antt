@@ -1,6 +1,6 @@
 use Rattle.std.proofs.Common.{◌≡◌, ◌+◌, ◌-◌, sym, ap, ◌∙◌, arith}
 use Rattle.std.specs.List.{remove}
-use Rattle.documents.specs.Documents.{records_before, line_of}
+use Rattle.documents.specs.Documents.{line_of}
 use Rattle.pair.specs.State.{state}
 use Rattle.documents.proofs.Finding.{place_is_line}
 use Rattle.pair.proofs.Moving.{line_removed, line_removed_past, line_without_is}

@@ -1,4 +1,4 @@
-use Rattle.std.proofs.Common.{◌≡◌, sym, ap, ◌∙◌, arith, rules}
+use Rattle.std.proofs.Common.{sym, ◌∙◌, arith, rules}
 use Rattle.slots.specs.Slots.{items}
 use Rattle.documents.proofs.Places.{before_within}
 use Rattle.pair.specs.Written.{written}

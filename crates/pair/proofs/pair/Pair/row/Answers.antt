@@ -1,8 +1,8 @@
-use Rattle.std.proofs.Common.{◌≡◌, Some, Option, sym, ap, ◌∙◌}
+use Rattle.std.proofs.Common.{Some, sym, ap, ◌∙◌}
 use Rattle.kinds.specs.Answers.{◌>>=◌, need}
 use Rattle.slots.specs.Slots.{items}
 use Rattle.documents.specs.declared.fault.Fault.TheVariants.{NotInDocument, NotARecord}
-use Rattle.documents.specs.Documents.{Line, line, line_row}
+use Rattle.documents.specs.Documents.{line, line_row}
 use Rattle.documents.specs.Across.{is_record}
 use Rattle.pair.proofs.Finding.{line_got, no_line}
 use Rattle.pair.proofs.pair.Pair.row.Goals as goal

@@ -1,4 +1,4 @@
-use Rattle.std.proofs.Common.{◌≡◌, set, ap, ◌∙◌, arith}
+use Rattle.std.proofs.Common.{set, ap, ◌∙◌, arith}
 use Rattle.pair.proofs.Filling.{filled_more, filled}
 use Rattle.pair.proofs.pair.opening.fill.Goals as goal
 
