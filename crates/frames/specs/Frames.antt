@@ -2,8 +2,7 @@
 use Rattle.std.specs.Prelude.{ℕ, ◌+◌, ◌*◌, Bool, true, cond, ◌&&◌, List, [], ◌∷◌, length, drop, Ok, Err, Result, ◌==◌, nat_le, slice_index}
 use Prim.Native.Char.{code}
 use Prim.Native.String.{String, [] as end, ◌∷◌ as ◌then◌}
-use Rattle.std.specs.Int.{w32}
-use Rattle.std.proofs.Common.{to_z}
+use Rattle.std.specs.Int.{w32, cast_signed}
 use Rattle.kinds.specs.Answers.{◌>>=◌, test}
 use Rattle.kinds.specs.Changes.{plain}
 use Rattle.kinds.specs.declared.change.Change.{Change}
@@ -35,7 +34,7 @@ four_bytes bytes i = byte bytes i * 16777216 + byte bytes (i + 1) * 65536 + byte
 
 -- L for the sheet, R for the table
 abbrev pub side : ℕ → Result Side FrameRefusal
-side b = cond (b == (letter "L")) (Ok Left) (cond (b == (letter "R")) (Ok Right) (Err UnknownSide))
+side b = cond (b == letter "L") (Ok Left) (cond (b == letter "R") (Ok Right) (Err UnknownSide))
 
 -- the frame has just so many bytes
 abbrev pub sized : ℕ → List ℕ → Result (Unit {0}) FrameRefusal
@@ -65,10 +64,10 @@ remark_from Right bytes = Err RemarkFromTable
 -- the change letter at byte 5 and its operand from byte 6 on: K 0, A an amount in two's complement, S a choice, F mask and bits
 abbrev pub change_in : List ℕ → Result Change FrameRefusal
 change_in bytes =
-    cond (byte bytes 5 == (letter "K")) (cond (four_bytes bytes 6 == 0) (Ok Keep) (Err KeepWithOperand))
-    (cond (byte bytes 5 == (letter "A")) (Ok (Add (to_z w32 (four_bytes bytes 6))))
-    (cond (byte bytes 5 == (letter "S")) (Ok (Set (four_bytes bytes 6)))
-    (cond (byte bytes 5 == (letter "F")) (Ok (Mask (two_bytes bytes 6) (two_bytes bytes 8)))
+    cond (byte bytes 5 == letter "K") (cond (four_bytes bytes 6 == 0) (Ok Keep) (Err KeepWithOperand))
+    (cond (byte bytes 5 == letter "A") (Ok (Add (cast_signed w32 (four_bytes bytes 6))))
+    (cond (byte bytes 5 == letter "S") (Ok (Set (four_bytes bytes 6)))
+    (cond (byte bytes 5 == letter "F") (Ok (Mask (two_bytes bytes 6) (two_bytes bytes 8)))
     (Err UnknownChange))))
 
 -- C: a position, a column and a change, in its plain form
@@ -81,12 +80,12 @@ alteration_in bytes = do
 -- the operation letter at byte 1, and what it adds
 abbrev pub edit_in : Side → List ℕ → Result Edit FrameRefusal
 edit_in s bytes =
-    cond (byte bytes 1 == (letter "K")) (sized 2 bytes >>= λ _. Ok keep)
-    (cond (byte bytes 1 == (letter "I")) (sized 4 bytes >>= λ _. Ok (insert (two_bytes bytes 2)))
-    (cond (byte bytes 1 == (letter "N")) (remark_from s bytes)
-    (cond (byte bytes 1 == (letter "D")) (sized 4 bytes >>= λ _. Ok (delete (two_bytes bytes 2)))
-    (cond (byte bytes 1 == (letter "M")) (sized 6 bytes >>= λ _. Ok (move (two_bytes bytes 2) (two_bytes bytes 4)))
-    (cond (byte bytes 1 == (letter "C")) (alteration_in bytes)
+    cond (byte bytes 1 == letter "K") (sized 2 bytes >>= λ _. Ok keep)
+    (cond (byte bytes 1 == letter "I") (sized 4 bytes >>= λ _. Ok (insert (two_bytes bytes 2)))
+    (cond (byte bytes 1 == letter "N") (remark_from s bytes)
+    (cond (byte bytes 1 == letter "D") (sized 4 bytes >>= λ _. Ok (delete (two_bytes bytes 2)))
+    (cond (byte bytes 1 == letter "M") (sized 6 bytes >>= λ _. Ok (move (two_bytes bytes 2) (two_bytes bytes 4)))
+    (cond (byte bytes 1 == letter "C") (alteration_in bytes)
     (Err UnknownOperation))))))
 
 -- What bytes say: an edit from a side.

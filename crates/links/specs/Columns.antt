@@ -56,7 +56,7 @@ pub record LawfulRow {R : Type 0} (count : ℕ) (row : Columns R) : Type 0 where
   -- each column is a lawful link
   pub each : (c : ℕ) → c < count → Lawful (column row c)
   -- carrying in one column leaves the agreement in every other
-  pub apart : (side : Side) (b c : ℕ) (s t : R) (e f : Change) (x y : ℕ) → (b ≢ c) → row.carry side c s e ≡ sent f t → row.agrees b s x y → row.agrees b t x y
+  pub apart : (side : Side) (b c : ℕ) (s t : R) (e f : Change) (x y : ℕ) → b ≢ c → row.carry side c s e ≡ sent f t → row.agrees b s x y → row.agrees b t x y
   -- beyond them no change is of the kind
   pub beyond : (side : Side) (c : ℕ) (s : R) (e : Change) → count ≤ c → row.carry side c s e ≡ refused NotOfKind
 

@@ -33,5 +33,6 @@ pub trait Link: Copy {
         ensures answers { result ≡ answer (lens.leftward self.old change) }
         ensures leaves { self.new ≡ link_after self.old (lens.leftward self.old change) };
 
+    // What each impl proves: the law of a link, to the right and to the left.
     ghost lawful: { Lawful lens };
 }

@@ -33,5 +33,6 @@ pub trait Rows: Copy {
         ensures answers { result ≡ column_answer column (columns.carry side column self.old change) }
         ensures leaves { self.new ≡ link_after self.old (columns.carry side column self.old change) };
 
+    // What each impl proves: each column is a lawful link, and leaves the others alone.
     ghost lawful: { LawfulRow 4 columns };
 }

@@ -160,7 +160,7 @@ right_out c d e f h = go (of_kind (many c) e) refl h
 -- y follows x
 step_values : (n m r r' x y v : ℕ) (z q : ℤ) → x ≡ n * y + r → r' < n → x ≤ n * (m + 1) - 1 → v ≤ n * (m + 1) - 1 → pos x +ℤ z ≡ pos v → n * up q + r' + down z ≡ r + up z + n * down q →
     (w : ℕ) × (pos y +ℤ q ≡ pos w) × (v ≡ n * w + r') × (w ≤ m)
-step_values n m r r' x y v z q x_is below x_Fits v_fits sum splits =
+step_values n m r r' x y v z q x_is below x_fits v_fits sum splits =
     let added : x + up z ≡ v + down z = omega (arith, ints) in
     let e : v + n * down q ≡ n * (y + up q) + r' = omega (arith, mul-add n y (up q)) in
     let less : n * down q < n * suc (y + up q) = omega (arith, mul-suc n (y + up q)) in
