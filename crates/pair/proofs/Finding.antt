@@ -90,9 +90,6 @@ line_over (remark_line t ∷ ls) (suc i) j lt h = rw add-one (rw add-one at (lin
 pub line_none : (xs : List StoredLine) (i j : ℕ) → length xs ≤ i → line_of j (drop i (written xs)) ≡ 0
 line_none xs i j le = ap (line_of j) (drop_all i (written xs) (omega (arith, length-map xs line)))
 
-pub never_text : (o : Option Line) (t : List ℕ) → o ≡ some (remark_line t) → is_record o ≡ true → ⊥
-never_text o t i h = let z : true ≡ false = sym h ∙ ap is_record i in let w : ◌≡◌ {A = ℕ} 0 1 = cc in omega arith
-
 pub never_none : (o : Option Line) → o ≡ none → is_record o ≡ true → ⊥
 never_none o i h = let z : true ≡ false = sym h ∙ ap is_record i in let w : ◌≡◌ {A = ℕ} 0 1 = cc in omega arith
 

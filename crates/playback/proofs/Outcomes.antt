@@ -1,7 +1,7 @@
 -- What a line comes to, by what its reading and the pair answer.
-use Rattle.std.proofs.Common.{◌≡◌, ℕ, ◌-◌, ◌<◌, ◌≤◌, List, ◌++◌, length, take, drop, Some, None, Ok, Err, Option, Result, sym, refl, ap, ◌∙◌, arith}
+use Rattle.std.proofs.Common.{◌≡◌, ℕ, ◌-◌, ◌<◌, List, ◌++◌, length, take, drop, Some, None, Ok, Err, Option, Result, sym, refl, ap, ◌∙◌, arith}
 use lib.Seq.{take-append_seam}
-use Rattle.std.proofs.lemmas.Bool.{lt-ltb, le-ltb}
+use Rattle.std.proofs.lemmas.Bool.{lt-ltb}
 use Rattle.kinds.specs.Answers.{◌>>=◌, test}
 use Rattle.links.specs.Columns.{Columns}
 use Rattle.frames.specs.Edits.{Edit, edit}
@@ -49,10 +49,6 @@ state_frame d (Ok a) = refl
 state_frame d (Err f) = refl
 
 module _ {R : Type 0} (row : Columns R) (day : Day R) (line : List ℕ) where
-  -- the line's number is too large
-  pub too_many : 1000000 ≤ day.lines → outcome row day line ≡ Err TooManyLines
-  too_many h = ap (λ b. test b TooManyLines >>= λ _. read (line_bytes line 64) >>= played row day.state) (le-ltb day.lines 1000000 h)
-
   module _ (few : day.lines < 1000000) (a : Result (Option (List ℕ)) LineRefusal) (is : line_bytes line 64 ≡ a) where
     -- the line is read
     pub outcome_read : outcome row day line ≡ (read a >>= played row day.state)
