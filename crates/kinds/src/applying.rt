@@ -48,7 +48,7 @@ impl Kind {
     pub fn same(self, other: Kind) -> bool
         ensures { result ≡ same_kind self other }
     {
-        self.letter == other.letter && self.limit == other.limit
+        self == other
     }
 
     // Says whether the change is of the kind.
@@ -92,7 +92,7 @@ impl Kind {
             (_, Change::Keep) => true,
             (Letter::Amount, Change::Add(amount)) => amount.unsigned_abs() <= self.limit,
             (Letter::Choice, Change::Set(choice)) => choice <= self.limit,
-            (Letter::Flags, Change::Mask { mask, bits }) => mask as u32 <= self.limit
+            (Letter::Flags, Change::Mask { mask, bits }) => u32::from(mask) <= self.limit
                 && bits & mask == bits,
             (_, _) => false,
         }
@@ -104,9 +104,11 @@ impl Kind {
     {
         match change {
             Change::Keep => Some(value),
-            Change::Add(amount) => within(self.limit, value as i64 + amount as i64),
+            Change::Add(amount) => within(self.limit, i64::from(value) + i64::from(amount)),
             Change::Set(choice) => Some(choice),
-            Change::Mask { mask, bits } => Some((value ^ (value & mask as u32)) | bits as u32),
+            Change::Mask { mask, bits } => Some(
+                (value ^ (value & u32::from(mask))) | u32::from(bits),
+            ),
         }
     }
 
@@ -138,9 +140,5 @@ impl Kind {
 fn within(limit: u32, sum: i64) -> Option<u32>
     ensures { result ≡ within limit sum }
 {
-    if 0 <= sum && sum <= limit as i64 {
-        Some(sum as u32)
-    } else {
-        None
-    }
+    u32::try_from(sum).ok().filter(|value| *value <= limit)
 }

@@ -3,7 +3,7 @@ ghost use Rattle.std.specs.Prelude.{◌≡◌, true};
 ghost use Rattle.kinds.specs.Letters.{proper};
 
 // What the values of a kind are.
-#[derive(Clone, Copy, PartialEq, Eq)]
+#[derive(Clone, Copy, PartialEq, Eq, Debug)]
 pub enum Letter {
     // An amount, changed by additions.
     Amount,
@@ -16,7 +16,7 @@ pub enum Letter {
 }
 
 // The values 0 to `limit`, which is a limit that the letter allows.
-#[derive(Clone, Copy)]
+#[derive(Clone, Copy, PartialEq, Eq, Debug)]
 pub struct Kind {
     pub letter: Letter,
     pub limit: u32,

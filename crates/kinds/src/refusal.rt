@@ -2,14 +2,15 @@
 ghost use Rattle.std.specs.Prelude.{◌≡◌};
 ghost use Rattle.kinds.specs.Refusals.{number};
 
-#[derive(Clone, Copy)]
+// Each refusal with the number under which it is reported.
+#[derive(Clone, Copy, PartialEq, Eq, Debug)]
 pub enum Refusal {
     // The change is not of the kind.
-    NotOfKind,
+    NotOfKind = 8,
     // The change does not apply to the value, or the value is above the limit.
-    DoesNotApply,
+    DoesNotApply = 9,
     // No kind has this letter and this limit.
-    NoSuchKind,
+    NoSuchKind = 11,
 }
 
 impl Refusal {
@@ -17,10 +18,6 @@ impl Refusal {
     pub fn number(self) -> u8
         ensures { result ≡ number self }
     {
-        match self {
-            Refusal::NotOfKind => 8,
-            Refusal::DoesNotApply => 9,
-            Refusal::NoSuchKind => 11,
-        }
+        self as u8
     }
 }

@@ -1,13 +1,8 @@
-use Rattle.std.proofs.Common.{◌∙◌, arith}
-use Rattle.std.proofs.lemmas.Bool.Decides.{nat_tests}
+use Rattle.std.proofs.Common.{◌∙◌, ap, nat_eq, ◌&&◌}
 use Rattle.kinds.specs.Kinds.{same_kind}
 use Rattle.kinds.proofs.Same.{same_letters}
 use Rattle.kinds.proofs.kind.Kind.same.Goals as goal
 
-pub returns-then-eq : goal.returns-then-eq
+pub returns : goal.returns
 unfolding same_kind
-returns-then-eq c = let e = c.if-eq.ensures ∙ same_letters c.args.self.letter c.args.other.letter in grind (arith, nat_tests)
-
-pub returns-else-eq : goal.returns-else-eq
-unfolding same_kind
-returns-else-eq c = let e = c.if-eq.ensures ∙ same_letters c.args.self.letter c.args.other.letter in grind (arith, nat_tests)
+returns c = c.eq.ensures ∙ ap (λ b. b && nat_eq c.args.self.limit c.args.other.limit) (same_letters c.args.self.letter c.args.other.letter)
