@@ -5,6 +5,8 @@ ghost use Rattle.slots.specs.Slots.{table, items, count, room, Reads, Sets, Inse
 use crate::refusal::Refusal;
 
 /// The items lie in the first slots of the table, and what lies past them is left over.
+// A slice with a length beside it, since the table is the caller's and nothing here allocates. No `impl Model`: clauses speak of
+// the whole table and of its lender too, which a view of the items would forget.
 #[derive(Drop)]
 pub struct SlotList<'a, T> {
     slots: &'a mut [T],
@@ -48,19 +50,14 @@ impl<'a, T: Copy> SlotList<'a, T> {
     pub fn as_slice(&self) -> &[T]
         ensures { result.now ≡ items self.now }
     {
-        let len = self.len();
-        &self.slots[0..len]
+        &self.slots[..self.len()]
     }
 
     /// The item at a position.
     pub fn get(&self, at: usize) -> Result<T, Refusal>
         ensures { Reads self.now at result }
     {
-        let items = self.as_slice();
-        if at >= items.len() {
-            return Err(Refusal::NotInList);
-        }
-        Ok(items[at])
+        self.as_slice().get(at).copied().ok_or(Refusal::NotInList)
     }
 
     /// Puts `item` in the place of the item at a position.

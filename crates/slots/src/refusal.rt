@@ -2,12 +2,13 @@
 ghost use Rattle.std.specs.Prelude.{◌≡◌};
 ghost use Rattle.slots.specs.Refusals.{numbered};
 
+/// Each refusal with the number by which it is known.
 #[derive(Clone, Copy, PartialEq, Eq, Debug)]
 pub enum Refusal {
     /// The position is not in the list.
-    NotInList,
+    NotInList = 5,
     /// Every slot of the table holds an item.
-    Full,
+    Full = 6,
 }
 
 impl Refusal {
@@ -15,9 +16,6 @@ impl Refusal {
     pub fn number(self) -> u8
         ensures { result ≡ numbered self }
     {
-        match self {
-            Refusal::NotInList => 5,
-            Refusal::Full => 6,
-        }
+        self as u8
     }
 }
