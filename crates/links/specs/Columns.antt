@@ -9,6 +9,8 @@ use Rattle.links.specs.declared.refusal.CarryRefusal.{CarryRefusal}
 use Rattle.links.specs.declared.refusal.CarryRefusal.TheVariants.{NotOfKind}
 use Rattle.links.specs.declared.rows.ColumnFault.{ColumnFault}
 use Rattle.links.specs.declared.row.Row.{Row}
+use Rattle.links.specs.declared.row.Column.{Column as Place}
+use Rattle.links.specs.declared.row.Column.TheVariants.{First, Second, Third, Fourth}
 use Rattle.links.specs.Laws.{Carried, sent, refused, Way, Lens, from, Lawful}
 use Rattle.links.specs.Layers.{put}
 
@@ -84,6 +86,10 @@ InColumn (suc zero) p0 p1 p2 p3 none = p1
 InColumn (suc (suc zero)) p0 p1 p2 p3 none = p2
 InColumn (suc (suc (suc zero))) p0 p1 p2 p3 none = p3
 InColumn (suc (suc (suc (suc n)))) p0 p1 p2 p3 none = none
+
+-- the place of the link in a column; beyond the four there is none, and it does not matter which is named
+abbrev pub column_at : ℕ → Place
+column_at c = in_column c First Second Third Fourth Fourth
 
 -- four links side by side
 abbrev pub row : {A B C D : Type 0} → A → B → C → D → Row A B C D

@@ -2,20 +2,20 @@
 ghost use Rattle.std.specs.Prelude.{◌≡◌};
 ghost use Rattle.links.specs.Refusals.{carry_number, build_number};
 
-// Why a change is not carried.
-#[derive(Clone, Copy)]
+// Why a change is not carried, each reason with its number.
+#[derive(Clone, Copy, PartialEq, Eq, Debug)]
 pub enum CarryRefusal {
     // The change is not of the kind.
-    NotOfKind,
+    NotOfKind = 8,
     // No change of the other kind translates it.
-    NoTranslation,
+    NoTranslation = 10,
 }
 
-// Why a link is not built.
-#[derive(Clone, Copy)]
+// Why a link is not built, with its number.
+#[derive(Clone, Copy, PartialEq, Eq, Debug)]
 pub enum BuildRefusal {
     // No such link has these numbers, or these parts.
-    CannotBuild,
+    CannotBuild = 11,
 }
 
 impl CarryRefusal {
@@ -23,10 +23,7 @@ impl CarryRefusal {
     pub fn number(self) -> u8
         ensures { result ≡ carry_number self }
     {
-        match self {
-            CarryRefusal::NotOfKind => 8,
-            CarryRefusal::NoTranslation => 10,
-        }
+        self as u8
     }
 }
 
@@ -35,8 +32,6 @@ impl BuildRefusal {
     pub fn number(self) -> u8
         ensures { result ≡ build_number self }
     {
-        match self {
-            BuildRefusal::CannotBuild => 11,
-        }
+        self as u8
     }
 }

@@ -1,7 +1,7 @@
 // Four links of any types, side by side.
 ghost use Rattle.std.specs.Prelude.{◌≡◌};
 ghost use Rattle.links.specs.Laws.{from, link_after};
-ghost use Rattle.links.specs.Columns.{of_four, column_answer, four, row};
+ghost use Rattle.links.specs.Columns.{column_at, of_four, column_answer, four, row};
 ghost use Rattle.links.specs.ColumnsLemmas.{row_lawful};
 
 use crate::link::Link;
@@ -34,6 +34,35 @@ impl<P0: Link, P1: Link, P2: Link, P3: Link> Row<P0, P1, P2, P3> {
     }
 }
 
+// The place of a link in the row.
+#[derive(Clone, Copy)]
+enum Column {
+    First,
+    Second,
+    Third,
+    Fourth,
+}
+
+// The column that has a number, of which there are four.
+impl TryFrom<u8> for Column {
+    type Error = ColumnFault;
+
+    ghost try_from_gives = { λ number answer. answer ≡ of_four number (column_at number) };
+
+    fn try_from(number: u8) -> Result<Column, ColumnFault> {
+        match number {
+            0 => Ok(Column::First),
+            1 => Ok(Column::Second),
+            2 => Ok(Column::Third),
+            3 => Ok(Column::Fourth),
+            _ => Err(ColumnFault {
+                column: number,
+                refusal: CarryRefusal::NotOfKind,
+            }),
+        }
+    }
+}
+
 // The kind of a side of a link.
 fn kind_of<L: Link>(link: &L, side: Side) -> Kind
     ensures { result ≡ (from side L.Link.lens).near link.now }
@@ -44,7 +73,7 @@ fn kind_of<L: Link>(link: &L, side: Side) -> Kind
     }
 }
 
-// Carries a change through the link of a column, and names the column where the link refuses.
+// Carries a change through a link, and names the column where the link refuses.
 fn carry_in<L: Link>(
     link: &mut L,
     side: Side,
@@ -58,37 +87,22 @@ fn carry_in<L: Link>(
         Side::Left => link.carry_right(change),
         Side::Right => link.carry_left(change),
     };
-    match answer {
-        Ok(carried) => Ok(carried),
-        Err(refusal) => Err(ColumnFault { column, refusal }),
-    }
+    answer.map_err(|refusal| ColumnFault { column, refusal })
 }
 
-// The column, of which there are four.
-fn existing(column: u8) -> Result<u8, ColumnFault>
-    ensures { result ≡ of_four column column }
-{
-    if column < 4 {
-        Ok(column)
-    } else {
-        Err(ColumnFault {
-            column,
-            refusal: CarryRefusal::NotOfKind,
-        })
-    }
-}
-
+// `kind` and `carry` each pick the link by a match: the four links have four types, so that no closure takes them all, and a
+// `dyn Link` made of a value of a type parameter gets no proof.
 impl<P0: Link, P1: Link, P2: Link, P3: Link> Rows for Row<P0, P1, P2, P3> {
     ghost columns = { four P0.Link.lens P1.Link.lens P2.Link.lens P3.Link.lens };
 
     ghost lawful = { row_lawful P0.Link.lens P0.Link.lawful P1.Link.lens P1.Link.lawful P2.Link.lens P2.Link.lawful P3.Link.lens P3.Link.lawful };
 
     fn kind(&self, side: Side, column: u8) -> Result<Kind, ColumnFault> {
-        Ok(match existing(column)? {
-            0 => kind_of(&self.first, side),
-            1 => kind_of(&self.second, side),
-            2 => kind_of(&self.third, side),
-            _ => kind_of(&self.fourth, side),
+        Ok(match Column::try_from(column)? {
+            Column::First => kind_of(&self.first, side),
+            Column::Second => kind_of(&self.second, side),
+            Column::Third => kind_of(&self.third, side),
+            Column::Fourth => kind_of(&self.fourth, side),
         })
     }
 
@@ -100,11 +114,11 @@ impl<P0: Link, P1: Link, P2: Link, P3: Link> Rows for Row<P0, P1, P2, P3> {
     }
 
     fn carry(&mut self, side: Side, column: u8, change: Change) -> Result<Change, ColumnFault> {
-        match existing(column)? {
-            0 => carry_in(&mut self.first, side, column, change),
-            1 => carry_in(&mut self.second, side, column, change),
-            2 => carry_in(&mut self.third, side, column, change),
-            _ => carry_in(&mut self.fourth, side, column, change),
+        match Column::try_from(column)? {
+            Column::First => carry_in(&mut self.first, side, column, change),
+            Column::Second => carry_in(&mut self.second, side, column, change),
+            Column::Third => carry_in(&mut self.third, side, column, change),
+            Column::Fourth => carry_in(&mut self.fourth, side, column, change),
         }
     }
 }

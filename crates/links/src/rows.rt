@@ -9,7 +9,7 @@ use kinds::kind::Kind;
 use kinds::side::Side;
 
 // A refusal, and the column that it came from.
-#[derive(Clone, Copy)]
+#[derive(Clone, Copy, PartialEq, Eq, Debug)]
 pub struct ColumnFault {
     pub column: u8,
     pub refusal: CarryRefusal,
