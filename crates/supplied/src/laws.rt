@@ -1,4 +1,5 @@
-// The laws of the supplied links, as the promises of functions that do nothing.
+// The laws of the supplied links, as the promises of functions that do nothing. A function for each link, and no generic one:
+// what the values agree by is the link's own, and a generic one could only say again that `Link` asks for a lawful lens.
 ghost use Rattle.std.specs.Prelude.{◌≡◌, ℕ, ◌+◌, ◌-◌, ◌*◌, ◌%◌, ◌^◌, ◌<◌};
 ghost use Rattle.links.specs.Laws.{Lawful, AgreeBy};
 ghost use Rattle.supplied.specs.Memoryless.{same, private, bit, label};

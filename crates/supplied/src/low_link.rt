@@ -27,7 +27,8 @@ impl Low {
 
 // The kind of as many flags as `width` says.
 fn flags(width: u32) -> Kind
-    requires { (1 ≤ width) × (width ≤ 16) }
+    requires some { 1 ≤ width }
+    requires few { width ≤ 16 }
     ensures letter { result.letter ≡ Flags }
     ensures limit { result.limit ≡ 2 ^ width - 1 }
 {

@@ -5,7 +5,7 @@ use Rattle.supplied.specs.LowBits.{width_fits}
 use Rattle.supplied.proofs.low_link.flags.Goals as goal
 
 pub invariant_of-result : goal.invariant_of-result
-invariant_of-result c = record { proper = ap (λ n. all_ones (n - 1)) (one_shl c.args.width 32 (omega (arith, c.requires.1))) ∙ width_fits c.args.width c.requires.0 c.requires.1 }
+invariant_of-result c = record { proper = ap (λ n. all_ones (n - 1)) (one_shl c.args.width 32 (omega (arith, c.requires.few))) ∙ width_fits c.args.width c.requires.some c.requires.few }
 
 pub returns : goal.returns
-returns c = record { letter = refl; limit = ap (λ n. n - 1) (one_shl c.args.width 32 (omega (arith, c.requires.1))) }
+returns c = record { letter = refl; limit = ap (λ n. n - 1) (one_shl c.args.width 32 (omega (arith, c.requires.few))) }
