@@ -48,6 +48,7 @@ impl PartialLine {
     }
 
     // Goes on with more characters of the line.
+    #[tactic(auto, using(crate::proofs::Kept::joined))]
     pub fn extend(&mut self, more: &[u8])
         ensures { self.new ≡ take 81 (self.old ++ more.now) }
     {
@@ -61,6 +62,6 @@ impl PartialLine {
     pub fn clear(&mut self)
         ensures { self.new ≡ [] }
     {
-        self.characters.clear();
+        *self = PartialLine::new();
     }
 }
