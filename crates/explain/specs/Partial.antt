@@ -1,13 +1,8 @@
--- What a partial line holds.
+-- How a line is read of which the first characters were kept.
 use Rattle.std.specs.Prelude.{◌≡◌, ℕ, List, length, take, Result}
 use Rattle.frames.specs.declared.line.LogLine.{LogLine}
 use Rattle.frames.specs.declared.refusal.LineRefusal.{LineRefusal}
 use Rattle.frames.specs.Lines.{line_bytes, answer, written}
-use Rattle.explain.specs.declared.partial.PartialLine.{PartialLine}
-
--- the characters that are kept
-abbrev pub kept : PartialLine → List ℕ
-kept line = take line.len line.characters
 
 -- The answer, and the buffer then, are those of each whole line that begins with the characters kept.
 abbrev pub ReadAs : List ℕ → List ℕ → List ℕ → Result LogLine LineRefusal → Type 0

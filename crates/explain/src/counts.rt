@@ -4,7 +4,7 @@ ghost use Rattle.std.specs.Prelude.{◌≡◌, ◌+◌};
 use kinds::side::Side;
 use std::fmt;
 
-#[derive(Clone, Copy)]
+#[derive(Clone, Copy, Default)]
 pub struct Counts {
     pub sheet: u32,
     pub table: u32,
@@ -13,15 +13,6 @@ pub struct Counts {
 }
 
 impl Counts {
-    pub fn new() -> Counts {
-        Counts {
-            sheet: 0,
-            table: 0,
-            skipped: 0,
-            refused: 0,
-        }
-    }
-
     // All lines so far.
     pub fn lines(&self) -> u64
         ensures { result ≡ self.now.sheet + self.now.table + self.now.skipped + self.now.refused }
@@ -33,7 +24,7 @@ impl Counts {
     pub fn next_line(&self) -> u64
         ensures { result ≡ self.now.sheet + self.now.table + self.now.skipped + self.now.refused + 1 }
     {
-        self.operations() + u64::from(self.skipped) + u64::from(self.refused) + 1
+        self.lines() + 1
     }
 
     // The lines that are frames.
@@ -61,16 +52,18 @@ impl Counts {
 
 impl fmt::Display for Counts {
     fn fmt<W: fmt::Write>(&self, f: &mut fmt::Formatter<W>) -> fmt::Result {
+        let Counts {
+            sheet,
+            table,
+            skipped,
+            refused,
+        } = *self;
         let lines = self.lines();
         let operations = self.operations();
-        let sheet = self.sheet;
-        let table = self.table;
-        let skipped = self.skipped;
-        let refused = self.refused;
         write!(
             f,
-            "lines {lines}: operations {operations} (sheet {sheet}, table {table})"
-        )?;
-        write!(f, ", skipped {skipped}, refused {refused}")
+            "lines {lines}: operations {operations} (sheet {sheet}, table {table}), \
+             skipped {skipped}, refused {refused}"
+        )
     }
 }

@@ -1,48 +1,46 @@
 // A log walked through from its first line to its last.
 use crate::counts::Counts;
-use crate::partial::PartialLine;
+use crate::partial::read_partial;
 use crate::words::Words;
 use frames::frame::Frame;
 use frames::line::LogLine;
+use logs::MOST_LINES;
+use logs::partial::PartialLine;
 use std::io;
 use std::io::Write;
-
-// The most lines of a log.
-const MOST_LINES: u64 = 1_000_000;
 
 #[derive(Drop)]
 pub struct Explainer {
     line: PartialLine,
     counts: Counts,
-    ended: bool,
 }
 
 impl Explainer {
     pub fn new() -> Explainer {
         Explainer {
             line: PartialLine::new(),
-            counts: Counts::new(),
-            ended: false,
+            counts: Counts::default(),
         }
     }
 
     // Says whether a line was refused for its number, so that the rest of the log does not matter.
     pub fn has_ended(&self) -> bool {
-        self.ended
+        self.counts.lines() > MOST_LINES
     }
 
     // Explains the lines that end in the next piece of the log.
     pub fn feed<W: Write>(&mut self, piece: &[u8], out: &mut W) -> io::Result<()> {
-        for character in piece {
-            if self.ended {
+        for part in piece.split_inclusive(|byte| *byte == b'\n') {
+            if self.has_ended() {
                 break;
             }
-            if self.counts.lines() >= MOST_LINES {
+            if self.counts.lines() == MOST_LINES {
                 self.refuse_the_rest(out)?;
-            } else if *character == b'\n' {
+            } else if let [line @ .., b'\n'] = part {
+                self.line.extend(line);
                 self.explain_line(out)?;
             } else {
-                self.line.push(*character);
+                self.line.extend(part);
             }
         }
         Ok(())
@@ -53,21 +51,20 @@ impl Explainer {
         if !self.line.is_empty() {
             self.explain_line(out)?;
         }
-        let counts = self.counts;
-        writeln!(out, "{counts}")
+        writeln!(out, "{}", self.counts)
     }
 
     fn explain_line<W: Write>(&mut self, out: &mut W) -> io::Result<()> {
         let number = self.counts.next_line();
         let mut buffer = [0u8; 64];
-        let read = self.line.read(&mut buffer);
+        let read = read_partial(&self.line, &mut buffer);
         self.line.clear();
         match read {
             Ok(LogLine::Skipped) => {
                 self.counts.note_skipped();
                 writeln!(out, "{number:>7}  skipped")
             }
-            Ok(LogLine::Bytes(count)) => self.explain_frame(number, &buffer[0..count], out),
+            Ok(LogLine::Bytes(count)) => self.explain_frame(number, &buffer[..count], out),
             Err(refusal) => {
                 self.counts.note_refused();
                 let code = refusal.number();
@@ -101,7 +98,6 @@ impl Explainer {
     fn refuse_the_rest<W: Write>(&mut self, out: &mut W) -> io::Result<()> {
         let number = self.counts.next_line();
         self.counts.note_refused();
-        self.ended = true;
         writeln!(
             out,
             "{number:>7}  refused (1): more than {MOST_LINES} lines, the rest is not read"

@@ -17,6 +17,7 @@ fn main(rt: HostRuntime) -> io::Result<()> {
     let mut out = BufWriter::new(rt.alloc(), rt.stdout())?;
     let mut explainer = Explainer::new();
     let mut piece = [0u8; 65536];
+    // Reads to the end of the log: a loop is counted, so that it is seen to end, and no log is that long.
     for _ in 0..u64::MAX {
         if explainer.has_ended() {
             break;
@@ -25,7 +26,7 @@ fn main(rt: HostRuntime) -> io::Result<()> {
         if count == 0 {
             break;
         }
-        explainer.feed(&piece[0..count], &mut out)?;
+        explainer.feed(&piece[..count], &mut out)?;
     }
     explainer.finish(&mut out)?;
     out.flush()

@@ -1,11 +1,16 @@
-// The line that is being read, by its first characters: 81 are enough to see that it has more than 80.
-ghost use Rattle.std.specs.Prelude.{◌≤◌};
+// A line of which the first characters were kept is read like the whole line.
+ghost use Rattle.frames.specs.Lines.{Few};
+ghost use Rattle.explain.specs.Partial.{ReadAs};
 
-pub mod methods;
+use frames::line::{LogLine, read_line};
+use frames::refusal::LineRefusal;
+use logs::partial::PartialLine;
 
-#[derive(Drop)]
-pub struct PartialLine {
-    characters: [u8; 81],
-    len: usize,
-    ghost within: { len ≤ 81 },
+// Reads the line as if all of it had been kept.
+#[tactic(auto, using(crate::proofs::Cut::cut))]
+pub fn read_partial(line: &PartialLine, buffer: &mut [u8]) -> Result<LogLine, LineRefusal>
+    ensures whole { ReadAs line.now buffer.old buffer.new result }
+    ensures few { Few result }
+{
+    read_line(line.as_slice(), buffer)
 }

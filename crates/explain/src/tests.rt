@@ -20,7 +20,7 @@ fn explained(heap: Global, first: &[u8], second: &[u8]) -> io::Result<Vec<u8>> {
 
 fn says(rt: &impl Abort, heap: Global, log: &str, expected: &str) -> Result<(), Fail> {
     let out = explained(heap, log.as_bytes(), b"")?;
-    assert!(rt; out.as_slice() == expected.as_bytes(), "{}", log);
+    assert!(rt; out.as_slice() == expected.as_bytes(), "{log}");
     Ok(())
 }
 
@@ -31,7 +31,7 @@ fn is_read(side: u8, letter: u8, length: usize) -> bool
     let mut bytes = [b'A'; 40];
     bytes[0] = side;
     bytes[1] = letter;
-    Frame::read(&bytes[0..length]).is_ok()
+    Frame::read(&bytes[..length]).is_ok()
 }
 
 // Says whether the operation has so many bytes.
@@ -75,8 +75,28 @@ fn pieces(rt: HostRuntime) -> Result<(), Fail> {
     let log = b"; bench 4\n4C490000\n4C4E00004D31\n524300000141FFFFFFFE";
     let whole = explained(rt.alloc(), log, b"")?;
     for cut in 0..log.len() {
-        let parts = explained(rt.alloc(), &log[0..cut], &log[cut..])?;
+        let parts = explained(rt.alloc(), &log[..cut], &log[cut..])?;
         assert!(rt; parts.as_slice() == whole.as_slice());
     }
+    Ok(())
+}
+
+#[test]
+fn too_many_lines(rt: HostRuntime) -> Result<(), Fail> {
+    let mut out = Vec::new(rt.alloc());
+    let mut explainer = Explainer::new();
+    for _ in 0..100 {
+        out.clear();
+        explainer.feed(&[b'\n'; 10_000], &mut out)?;
+    }
+    assert!(rt; !explainer.has_ended());
+    out.clear();
+    explainer.feed(b"4C4B", &mut out)?;
+    assert!(rt; explainer.has_ended());
+    explainer.feed(b"\n4C4B\n", &mut out)?;
+    explainer.finish(&mut out)?;
+    let expected = "1000001  refused (1): more than 1000000 lines, the rest is not read\n\
+                    lines 1000001: operations 0 (sheet 0, table 0), skipped 1000000, refused 1\n";
+    assert!(rt; out.as_slice() == expected.as_bytes());
     Ok(())
 }

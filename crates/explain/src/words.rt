@@ -19,10 +19,10 @@ impl fmt::Display for Words<Frame<'_>> {
 
 impl fmt::Display for Words<Side> {
     fn fmt<W: fmt::Write>(&self, f: &mut fmt::Formatter<W>) -> fmt::Result {
-        match self.0 {
-            Side::Left => write!(f, "sheet"),
-            Side::Right => write!(f, "table"),
-        }
+        f.write_str(match self.0 {
+            Side::Left => "sheet",
+            Side::Right => "table",
+        })
     }
 }
 
@@ -68,28 +68,26 @@ impl fmt::Display for Words<Change> {
 
 impl fmt::Display for Words<LineRefusal> {
     fn fmt<W: fmt::Write>(&self, f: &mut fmt::Formatter<W>) -> fmt::Result {
-        match self.0 {
-            LineRefusal::TooLong => write!(f, "more than 80 characters"),
-            LineRefusal::NotHexadecimal => write!(f, "not pairs of the digits 0-9 and A-F"),
-            LineRefusal::ShortBuffer => write!(f, "a buffer shorter than 64 bytes"),
-        }
+        f.write_str(match self.0 {
+            LineRefusal::TooLong => "more than 80 characters",
+            LineRefusal::NotHexadecimal => "not pairs of the digits 0-9 and A-F",
+            LineRefusal::ShortBuffer => "a buffer shorter than 64 bytes",
+        })
     }
 }
 
 impl fmt::Display for Words<FrameRefusal> {
     fn fmt<W: fmt::Write>(&self, f: &mut fmt::Formatter<W>) -> fmt::Result {
-        match self.0 {
-            FrameRefusal::WrongLength => write!(f, "the length does not fit the operation"),
-            FrameRefusal::UnknownSide => write!(f, "the side letter is neither L nor R"),
+        f.write_str(match self.0 {
+            FrameRefusal::WrongLength => "the length does not fit the operation",
+            FrameRefusal::UnknownSide => "the side letter is neither L nor R",
             FrameRefusal::UnknownOperation => {
-                write!(f, "the operation letter is none of K, I, N, D, M and C")
+                "the operation letter is none of K, I, N, D, M and C"
             }
-            FrameRefusal::RemarkFromTable => write!(f, "the table has no remarks"),
-            FrameRefusal::UnprintableText => write!(f, "the text has a byte that is not printable"),
-            FrameRefusal::UnknownChange => {
-                write!(f, "the change letter is none of K, A, S and F")
-            }
-            FrameRefusal::KeepWithOperand => write!(f, "a keep has an operand that is not 0"),
-        }
+            FrameRefusal::RemarkFromTable => "the table has no remarks",
+            FrameRefusal::UnprintableText => "the text has a byte that is not printable",
+            FrameRefusal::UnknownChange => "the change letter is none of K, A, S and F",
+            FrameRefusal::KeepWithOperand => "a keep has an operand that is not 0",
+        })
     }
 }

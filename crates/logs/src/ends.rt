@@ -5,10 +5,5 @@ ghost use Rattle.logs.specs.Logs.{LineEnd};
 pub fn line_end(bytes: &[u8]) -> Option<usize>
     ensures { LineEnd bytes.now result }
 {
-    for (at, byte) in bytes.iter().enumerate() {
-        if *byte == b'\n' {
-            return Some(at);
-        }
-    }
-    None
+    bytes.iter().position(|byte| *byte == b'\n')
 }

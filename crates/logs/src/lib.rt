@@ -4,3 +4,6 @@
 pub mod ends;
 pub mod laws;
 pub mod partial;
+
+// The most lines of a log.
+pub const MOST_LINES: u64 = 1_000_000;
