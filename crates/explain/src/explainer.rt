@@ -3,7 +3,6 @@ use crate::counts::Counts;
 use crate::partial::read_partial;
 use crate::words::Words;
 use frames::frame::Frame;
-use frames::line::LogLine;
 use logs::MOST_LINES;
 use logs::partial::PartialLine;
 use std::io;
@@ -60,11 +59,11 @@ impl Explainer {
         let read = read_partial(&self.line, &mut buffer);
         self.line.clear();
         match read {
-            Ok(LogLine::Skipped) => {
+            Ok(None) => {
                 self.counts.note_skipped();
                 writeln!(out, "{number:>7}  skipped")
             }
-            Ok(LogLine::Bytes(count)) => self.explain_frame(number, &buffer[..count], out),
+            Ok(Some(count)) => self.explain_frame(number, &buffer[..count], out),
             Err(refusal) => {
                 self.counts.note_refused();
                 let code = refusal.number();

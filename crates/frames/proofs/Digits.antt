@@ -1,8 +1,9 @@
 -- When characters spell bytes, and which.
-use Rattle.std.proofs.Common.{◌≡◌, ℕ, zero, suc, ◌+◌, ◌*◌, ◌/◌, ◌%◌, ◌<◌, true, false, eqb, List, [], ◌∷◌, ◌++◌, length, get_or, take, drop, set, is_some, Some, None, Option, unwrap_or, sym, refl, ap, ◌∙◌, ⊎_elim, append_assoc, arith}
+use Rattle.std.proofs.Common.{◌≡◌, ℕ, suc, ◌+◌, ◌*◌, ◌/◌, ◌%◌, ◌<◌, Bool, true, false, ◌&&◌, eqb, List, [], ◌∷◌, ◌++◌, map, length, get_or, take, drop, set, is_some, Some, None, Option, unwrap_or, sym, refl, ap, ◌∙◌, append_assoc, arith}
 use Rattle.std.proofs.lemmas.List.{take_more, drop_more, set_at, length-take-le}
-use Rattle.std.proofs.lemmas.Bool.{eq-eqb, ne_eqb, cases_eq}
 use Rattle.std.proofs.lemmas.Bool.Decides.{nat_tests}
+use Rattle.std.specs.List.{list_all}
+use Rattle.std.specs.Simd.{first_chunks}
 use Rattle.frames.specs.Lines.{digit, byte, joined, bytes_of, character, characters}
 
 abbrev pub value : ℕ → ℕ
@@ -19,49 +20,42 @@ length_pairs [] = refl
 length_pairs (c ∷ []) = omega arith
 length_pairs (c ∷ d ∷ cs) = omega (arith, length_pairs cs)
 
-pub get_or_pairs : (cs : List ℕ) (i : ℕ) → i < length cs / 2 → get_or (pairs cs) i 0 ≡ value (get_or cs (2 * i) 0) * 16 + value (get_or cs (2 * i + 1) 0)
-get_or_pairs [] i h = absurd (omega arith)
-get_or_pairs (c ∷ []) i h = absurd (omega arith)
-get_or_pairs (c ∷ d ∷ cs) zero h = refl
-get_or_pairs (c ∷ d ∷ cs) (suc i) h =
-    let even : 2 * suc i ≡ suc (suc (2 * i)) = omega arith in
-    let odd : 2 * suc i + 1 ≡ suc (suc (2 * i + 1)) = omega arith in
-    rw (odd, even) (get_or_pairs cs i (omega arith))
+-- the byte of two characters
+abbrev pub byte_of : List ℕ → ℕ
+byte_of two = value (get_or two 0 0) * 16 + value (get_or two 1 0)
 
-byte_is : (o p : Option ℕ) → is_some o ≡ true → is_some p ≡ true → byte o p ≡ Some (unwrap_or o 0 * 16 + unwrap_or p 0)
-byte_is None p h k = absurd (let z : ◌≡◌ {A = ℕ} 0 1 = cc in omega arith)
-byte_is (Some a) None h k = absurd (let z : ◌≡◌ {A = ℕ} 0 1 = cc in omega arith)
-byte_is (Some a) (Some b) h k = refl
+-- the pairs are the characters in chunks of two
+pub chunked : (cs : List ℕ) → map byte_of (first_chunks 2 (length cs / 2) cs) ≡ pairs cs
+chunked [] = refl
+chunked (c ∷ []) = refl
+chunked (c ∷ d ∷ cs) =
+    let half : suc (suc (length cs)) / 2 ≡ suc (length cs / 2) = omega arith in
+    ap (λ n. map byte_of (first_chunks 2 n (c ∷ d ∷ cs))) half ∙ ap (◌∷◌ (value c * 16 + value d)) (chunked cs)
 
-pub spelt : (cs : List ℕ) → ((k : ℕ) → k < length cs → is_some (digit (get_or cs k 0)) ≡ true) → length cs % 2 ≡ 0 → bytes_of cs ≡ Some (pairs cs)
-spelt [] each even = refl
-spelt (c ∷ []) each even = absurd (omega arith)
-spelt (c ∷ d ∷ cs) each even =
-    let front = byte_is (digit c) (digit d) (each 0 (omega arith)) (each 1 (omega arith)) in
-    let rest = spelt cs (λ k h. each (suc (suc k)) (omega arith)) (omega arith) in
-    rw (front, rest) refl
+-- two characters before others spell bytes if each is a digit and the others do
+joined_some : (o p : Option ℕ) (q : Option (List ℕ)) → is_some (joined (byte o p) q) ≡ (is_some o && (is_some p && is_some q))
+joined_some None p q = refl
+joined_some (Some h) None q = refl
+joined_some (Some h) (Some l) None = refl
+joined_some (Some h) (Some l) (Some bs) = refl
 
-joined_none : (o : Option ℕ) → joined o None ≡ None
-joined_none None = refl
-joined_none (Some b) = refl
-
-byte_none : (o : Option ℕ) → byte o None ≡ None
-byte_none None = refl
-byte_none (Some a) = refl
-
--- a character that is no digit spells nothing
-pub misspelt : (cs : List ℕ) (k : ℕ) → k < length cs → digit (get_or cs k 0) ≡ None → bytes_of cs ≡ None
-misspelt [] k h none = absurd (omega arith)
-misspelt (c ∷ []) k h none = refl
-misspelt (c ∷ d ∷ cs) zero h none = ap (λ o. joined (byte o (digit d)) (bytes_of cs)) none
-misspelt (c ∷ d ∷ cs) (suc zero) h none = ap (λ o. joined (byte (digit c) o) (bytes_of cs)) none ∙ ap (λ o. joined o (bytes_of cs)) (byte_none (digit c))
-misspelt (c ∷ d ∷ cs) (suc (suc k)) h none = ap (joined (byte (digit c) (digit d))) (misspelt cs k (omega arith) none) ∙ joined_none _
-
--- nor does an odd count
-pub unpaired : (cs : List ℕ) → (length cs % 2 ≡ 0 → ⊥) → bytes_of cs ≡ None
-unpaired [] odd = absurd (odd (omega arith))
-unpaired (c ∷ []) odd = refl
-unpaired (c ∷ d ∷ cs) odd = ap (joined (byte (digit c) (digit d))) (unpaired cs (λ e. odd (omega arith))) ∙ joined_none _
+-- characters spell bytes exactly where their count is even and each is a digit
+pub digits_spell : (cs : List ℕ) → is_some (bytes_of cs) ≡ (eqb (length cs % 2) 0 && list_all (λ c. is_some (digit c)) cs)
+digits_spell [] = refl
+digits_spell (c ∷ []) = refl
+digits_spell (c ∷ d ∷ cs) =
+    let even : suc (suc (length cs)) % 2 ≡ length cs % 2 = omega arith in
+    joined_some (digit c) (digit d) (bytes_of cs)
+    ∙ ap (λ b. is_some (digit c) && (is_some (digit d) && b)) (digits_spell cs)
+    ∙ each_even (is_some (digit c)) (is_some (digit d)) (eqb (length cs % 2) 0) _
+    ∙ ap (λ n. eqb n 0 && (is_some (digit c) && (is_some (digit d) && list_all (λ c. is_some (digit c)) cs))) (sym even)
+  where
+    each_even : (h l e a : Bool) → (h && (l && (e && a))) ≡ (e && (h && (l && a)))
+    each_even true true e a = refl
+    each_even true false true a = refl
+    each_even true false false a = refl
+    each_even false l true a = refl
+    each_even false l false a = refl
 
 -- what a byte before bytes is made of
 pub record Begun (o p : Option ℕ) (q : Option (List ℕ)) (bs : List ℕ) : Type 0 where
@@ -89,14 +83,6 @@ spelt_is (c ∷ d ∷ cs) bs e =
     let h : value c ≡ b.high = ap (λ o. unwrap_or o 0) b.high_is in
     let l : value d ≡ b.low = ap (λ o. unwrap_or o 0) b.low_is in
     b.whole ∙ (λ i. (sym h i * 16 + sym l i) ∷ t i)
-
--- digits spell bytes exactly where their count is even
-pub digits_spell : (cs : List ℕ) → ((k : ℕ) → k < length cs → is_some (digit (get_or cs k 0)) ≡ true) → eqb (length cs % 2) 0 ≡ is_some (bytes_of cs)
-digits_spell cs each =
-    ⊎_elim
-    (λ even. eq-eqb _ _ even ∙ sym (ap is_some (spelt cs each even)))
-    (λ odd. ne_eqb _ _ odd ∙ sym (ap is_some (unpaired cs odd)))
-    (cases_eq (length cs % 2) 0)
 
 -- one byte more at the front of a buffer
 pub one_more : (bs buffer : List ℕ) (i v : ℕ) → i < length bs → i < length buffer → v ≡ get_or bs i 0 → set (take i bs ++ drop i buffer) i v ≡ take (i + 1) bs ++ drop (i + 1) buffer

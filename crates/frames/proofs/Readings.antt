@@ -2,7 +2,6 @@
 use Rattle.std.proofs.Common.{◌≡◌, ℕ, ◌<◌, ◌≤◌, true, false, List, ◌++◌, length, take, drop, is_some, Some, None, Ok, Err, Option, sym, refl, ap, ◌∙◌, subst, arith}
 use Rattle.std.proofs.lemmas.List.{take_at}
 use Rattle.std.proofs.lemmas.Bool.{le-leb, lt-leb, true≢false}
-use Rattle.frames.specs.declared.line.LogLine.TheVariants.{Bytes}
 use Rattle.frames.specs.declared.refusal.LineRefusal.TheVariants.{NotHexadecimal, ShortBuffer}
 use Rattle.frames.specs.Lines.{bytes_of, is_skipped, line_bytes, answer, written, Spells, Refusals}
 use Rattle.frames.proofs.Digits.{length_pairs, none_from, spelt_is, spells_back}
@@ -41,8 +40,8 @@ module _ (line buffer : List ℕ) (short : length line ≤ 80) (kept : is_skippe
       let b = le-leb 64 (length buffer) room in
       rw (a, kept, spells, b) refl
 
-  pub answers : (count : ℕ) → count ≡ length spelling → Ok (Bytes count) ≡ answer (line_bytes line (length buffer))
-  answers count is = ap (λ n. Ok (Bytes n)) is ∙ sym (ap answer accepted)
+  pub answers : (count : ℕ) → count ≡ length spelling → Ok (Some count) ≡ answer (line_bytes line (length buffer))
+  answers count is = ap (λ n. Ok (Some n)) is ∙ sym (ap answer accepted)
 
   pub writes : (after : List ℕ) → after ≡ spelling ++ drop (length spelling) buffer → after ≡ written (line_bytes line (length buffer)) buffer
   writes after is = is ∙ sym (ap (λ o. written o buffer) accepted)
@@ -50,7 +49,7 @@ module _ (line buffer : List ℕ) (short : length line ≤ 80) (kept : is_skippe
   pub few : (count : ℕ) → count ≡ length spelling → count ≤ 40
   few count is = omega (arith, ap length (spelt_is line spelling spells), length_pairs line)
 
-  pub refusals : (count : ℕ) → Refusals line (length buffer) (Ok (Bytes count))
+  pub refusals : (count : ℕ) → Refusals line (length buffer) (Ok (Some count))
   refusals count = record {
     too_long = (absurd, λ h. absurd (omega arith));
     not_digits = (absurd, λ h. absurd (let z : true ≡ false = sym digits ∙ h.2 in true≢false z));

@@ -1,8 +1,9 @@
 -- A frame: a side letter, an operation letter, and what the operation adds. Bytes are counted from 0.
-use Rattle.std.specs.Prelude.{ℕ, ◌+◌, ◌*◌, Bool, true, cond, ◌&&◌, List, [], ◌∷◌, length, drop, Ok, Err, Result, ◌==◌, nat_le, slice_index}
+use Rattle.std.specs.Prelude.{ℕ, ◌+◌, ◌*◌, Bool, cond, ◌&&◌, List, length, drop, Ok, Err, Result, ◌==◌, nat_le, slice_index}
 use Prim.Native.Char.{code}
 use Prim.Native.String.{String, [] as end, ◌∷◌ as ◌then◌}
 use Rattle.std.specs.Int.{w32, cast_signed}
+use Rattle.std.specs.List.{list_all}
 use Rattle.kinds.specs.Answers.{◌>>=◌, test}
 use Rattle.kinds.specs.Changes.{plain}
 use Rattle.kinds.specs.declared.change.Change.{Change}
@@ -46,8 +47,7 @@ is_printable b = nat_le 32 b && nat_le b 126
 
 -- a text of such bytes
 abbrev pub printable : List ℕ → Bool
-printable [] = true
-printable (b ∷ text) = is_printable b && printable text
+printable text = list_all is_printable text
 
 -- N: a position, and a text of at most 24 bytes from byte 4 to the end
 abbrev pub remark_in : List ℕ → Result Edit FrameRefusal

@@ -1,8 +1,6 @@
 -- A log line: skipped, or pairs of hexadecimal digits, one pair a byte.
 use Rattle.std.specs.Prelude.{◌≡◌, ℕ, ◌+◌, ◌-◌, ◌*◌, ◌/◌, ◌%◌, ◌<◌, ◌≤◌, Bool, true, false, cond, ◌&&◌, ◌↔◌, List, [], ◌∷◌, ◌++◌, length, take, drop, is_some, IsErrAnd, Some, None, Ok, Err, Option, Result, ◌==◌, nat_le, nat_lt}
 use Rattle.kinds.specs.Answers.{◌>>=◌, test, need}
-use Rattle.frames.specs.declared.line.LogLine.{LogLine}
-use Rattle.frames.specs.declared.line.LogLine.TheVariants.{Skipped, Bytes}
 use Rattle.frames.specs.declared.refusal.LineRefusal.{LineRefusal}
 use Rattle.frames.specs.declared.refusal.LineRefusal.TheVariants.{TooLong, NotHexadecimal, ShortBuffer}
 use Rattle.frames.specs.Refusals.{line_number}
@@ -43,10 +41,10 @@ line_bytes line room = do
     _ ← test (nat_le 64 room) ShortBuffer
     Ok (Some bs))
 
--- the answer to a line: that it is skipped, or the count of its bytes
-abbrev pub answer : Result (Option (List ℕ)) LineRefusal → Result LogLine LineRefusal
-answer (Ok None) = Ok Skipped
-answer (Ok (Some bs)) = Ok (Bytes (length bs))
+-- the answer to a line: the count of its bytes, none if it is skipped
+abbrev pub answer : Result (Option (List ℕ)) LineRefusal → Result (Option ℕ) LineRefusal
+answer (Ok None) = Ok None
+answer (Ok (Some bs)) = Ok (Some (length bs))
 answer (Err e) = Err e
 
 -- the buffer then: the bytes at its front, and the rest as it was
@@ -70,23 +68,23 @@ pub record Spells (line bytes : List ℕ) : Type 0 where
   pub only : (other : List ℕ) → bytes_of other ≡ Some bytes → other ≡ line
 
 -- What a line that gives bytes leaves at the buffer's front spells the line.
-abbrev pub Spelled : List ℕ → List ℕ → Result LogLine LineRefusal → Type 0
-Spelled line buffer (Ok Skipped) = Unit {0}
-Spelled line buffer (Ok (Bytes count)) = Spells line (take count buffer)
+abbrev pub Spelled : List ℕ → List ℕ → Result (Option ℕ) LineRefusal → Type 0
+Spelled line buffer (Ok None) = Unit {0}
+Spelled line buffer (Ok (Some count)) = Spells line (take count buffer)
 Spelled line buffer (Err e) = Unit {0}
 
 -- A line gives at most 40 bytes.
-abbrev pub Few : Result LogLine LineRefusal → Type 0
-Few (Ok Skipped) = Unit {0}
-Few (Ok (Bytes count)) = count ≤ 40
+abbrev pub Few : Result (Option ℕ) LineRefusal → Type 0
+Few (Ok None) = Unit {0}
+Few (Ok (Some count)) = count ≤ 40
 Few (Err e) = Unit {0}
 
 -- the answer is a refusal with this number
-abbrev pub Refused : ℕ → Result LogLine LineRefusal → Type 0
+abbrev pub Refused : ℕ → Result (Option ℕ) LineRefusal → Type 0
 Refused n r = IsErrAnd r (λ e. line_number e ≡ n)
 
 -- Which lines are refused, with which number, where the buffer has this room.
-pub record Refusals (line : List ℕ) (room : ℕ) (r : Result LogLine LineRefusal) : Type 0 where
+pub record Refusals (line : List ℕ) (room : ℕ) (r : Result (Option ℕ) LineRefusal) : Type 0 where
   pub too_long : Refused 2 r ↔ (80 < length line)
   pub not_digits : Refused 3 r ↔ ((length line ≤ 80) × (is_skipped line ≡ false) × (is_some (bytes_of line) ≡ false))
   pub short_buffer : Refused 12 r ↔ ((length line ≤ 80) × (is_skipped line ≡ false) × (is_some (bytes_of line) ≡ true) × (room < 64))

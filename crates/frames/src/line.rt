@@ -11,15 +11,6 @@ const LONGEST_LINE: usize = 80;
 // The fewest bytes of a buffer that a line's bytes are written to.
 const SHORTEST_BUFFER: usize = 64;
 
-// What a log line is.
-#[derive(Clone, Copy)]
-pub enum LogLine {
-    // Empty, or begun by a semicolon.
-    Skipped,
-    // So many bytes now stand at the buffer's front.
-    Bytes(usize),
-}
-
 // The value of a hexadecimal digit.
 fn digit(character: u8) -> Option<u8>
     ensures { result ≡ digit character }
@@ -35,22 +26,14 @@ fn digit(character: u8) -> Option<u8>
 fn is_skipped(line: &[u8]) -> bool
     ensures { result ≡ is_skipped line.now }
 {
-    match line {
-        [] => true,
-        [first, ..] => *first == b';',
-    }
+    matches!(line, [] | [b';', ..])
 }
 
 // Says whether the characters are digits, as many as two for each byte.
 fn spells_bytes(line: &[u8]) -> bool
     ensures { result ≡ is_some (bytes_of line.now) }
 {
-    for character in line {
-        if digit(*character).is_none() {
-            return false;
-        }
-    }
-    line.len() % 2 == 0
+    line.len() % 2 == 0 && line.iter().all(|character| digit(*character).is_some())
 }
 
 // The value of a digit, and 0 for any other character.
@@ -66,15 +49,16 @@ fn write_bytes(line: &[u8], buffer: &mut [u8]) -> usize
     requires { length line.now ≤ 2 * length buffer.old }
     ensures { (bytes : List ℕ) → bytes_of line.now ≡ Some bytes → (result ≡ length bytes) × (buffer.new ≡ bytes ++ drop (length bytes) buffer.old) }
 {
-    let count = line.len() / 2;
-    for i in 0..count {
-        buffer[i] = value(line[2 * i]) * 16 + value(line[2 * i + 1]);
+    let (pairs, _) = line.as_chunks::<2>();
+    for (at, [high, low]) in pairs.iter().enumerate() {
+        buffer[at] = value(*high) * 16 + value(*low);
     }
-    count
+    pairs.len()
 }
 
-// Reads a line. Its bytes go to the buffer's front; bytes past them stay, and a refusal writes nothing.
-pub fn read_line(line: &[u8], buffer: &mut [u8]) -> Result<LogLine, LineRefusal>
+// Reads a line. Its bytes go to the buffer's front, and their count is answered, none for a line that is skipped. Bytes past
+// them stay, and a refusal writes nothing.
+pub fn read_line(line: &[u8], buffer: &mut [u8]) -> Result<Option<usize>, LineRefusal>
     ensures answers { result ≡ answer (line_bytes line.now (length buffer.old)) }
     ensures writes { buffer.new ≡ written (line_bytes line.now (length buffer.old)) buffer.old }
     ensures refusals { Refusals line.now (length buffer.old) result }
@@ -85,7 +69,7 @@ pub fn read_line(line: &[u8], buffer: &mut [u8]) -> Result<LogLine, LineRefusal>
         return Err(LineRefusal::TooLong);
     }
     if is_skipped(line) {
-        return Ok(LogLine::Skipped);
+        return Ok(None);
     }
     if !spells_bytes(line) {
         return Err(LineRefusal::NotHexadecimal);
@@ -93,5 +77,5 @@ pub fn read_line(line: &[u8], buffer: &mut [u8]) -> Result<LogLine, LineRefusal>
     if buffer.len() < SHORTEST_BUFFER {
         return Err(LineRefusal::ShortBuffer);
     }
-    Ok(LogLine::Bytes(write_bytes(line, buffer)))
+    Ok(Some(write_bytes(line, buffer)))
 }

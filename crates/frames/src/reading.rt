@@ -13,6 +13,7 @@ use kinds::side::Side;
 // The most bytes of a remark's text.
 const LONGEST_TEXT: usize = 24;
 
+// Not a `TryFrom`: a side is no type of this crate, and its letters are the frame's.
 fn read_side(letter: u8) -> Result<Side, FrameRefusal>
     ensures { result ≡ side letter }
 {
@@ -53,12 +54,11 @@ fn is_printable(byte: u8) -> bool
 fn check_text(text: &[u8]) -> Result<(), FrameRefusal>
     ensures { result ≡ test (printable text.now) UnprintableText }
 {
-    for byte in text {
-        if !is_printable(*byte) {
-            return Err(FrameRefusal::UnprintableText);
-        }
+    if text.iter().all(|byte| is_printable(*byte)) {
+        Ok(())
+    } else {
+        Err(FrameRefusal::UnprintableText)
     }
-    Ok(())
 }
 
 fn read_remark(bytes: &[u8]) -> Result<Operation<'_>, FrameRefusal>

@@ -2,31 +2,27 @@
 ghost use Rattle.std.specs.Prelude.{◌≡◌};
 ghost use Rattle.frames.specs.Refusals.{line_number, frame_number};
 
-// Why a log line does not give bytes.
-#[derive(Clone, Copy)]
+// Why a log line does not give bytes, each reason with its number.
+#[derive(Clone, Copy, PartialEq, Eq, Debug)]
 pub enum LineRefusal {
     // It has more than 80 characters.
-    TooLong,
+    TooLong = 2,
     // A character is not a hexadecimal digit, or the count of digits is odd.
-    NotHexadecimal,
+    NotHexadecimal = 3,
     // The buffer for its bytes is shorter than 64 bytes.
-    ShortBuffer,
+    ShortBuffer = 12,
 }
 
 impl LineRefusal {
     pub fn number(self) -> u8
         ensures { result ≡ line_number self }
     {
-        match self {
-            LineRefusal::TooLong => 2,
-            LineRefusal::NotHexadecimal => 3,
-            LineRefusal::ShortBuffer => 12,
-        }
+        self as u8
     }
 }
 
-// Why bytes are not a frame.
-#[derive(Clone, Copy)]
+// Why bytes are not a frame. All these reasons have one number.
+#[derive(Clone, Copy, PartialEq, Eq, Debug)]
 pub enum FrameRefusal {
     // Too few or too many bytes for the operation.
     WrongLength,
@@ -45,6 +41,7 @@ pub enum FrameRefusal {
 }
 
 impl FrameRefusal {
+    // A match, since discriminants differ from one another.
     pub fn number(self) -> u8
         ensures { result ≡ frame_number self }
     {

@@ -2,12 +2,11 @@
 use Rattle.std.proofs.Common.{◌≡◌, ℕ, ◌+◌, ◌≤◌, min, false, cond, List, Some, None, Ok, Err, Option, Result, sym, refl, ap, ◌∙◌, arith}
 use Rattle.std.proofs.lemmas.Bool.{ltb-false}
 use Rattle.links.specs.Columns.{Columns}
+use Rattle.frames.specs.declared.frame.Operation.{Operation}
 use Rattle.frames.specs.Edits.{Edit}
 use Rattle.documents.specs.Attempts.{State}
 use Rattle.pair.specs.Cells.{mapped}
 use Rattle.playback.specs.declared.fault.Cause.{Cause}
-use Rattle.playback.specs.declared.played.Played.{Played}
-use Rattle.playback.specs.declared.played.Played.TheVariants.{Skipped, Accepted}
 use Rattle.playback.specs.declared.fault.LineFault.{LineFault}
 use Rattle.playback.specs.declared.replay.Replay.{Replay}
 use Rattle.playback.specs.Days.{Day, ended, outcome, counted, answer, state_then}
@@ -16,29 +15,29 @@ use Rattle.playback.specs.States.{day, translation, told, Names, Tries, accepts,
 same_day : {R : Type 0} (a b : Day R) → a.state ≡ b.state → a.lines ≡ b.lines → a.accepted ≡ b.accepted → a.refused ≡ b.refused → a ≡ b
 same_day a b p q r s = λ i. record { state = p i; lines = q i; accepted = r i; refused = s i }
 
-told_on : (n : ℕ) (tried : Result Played Cause) → told (on_line n tried) ≡ mapped translation tried
+told_on : (n : ℕ) (tried : Result (Option Operation) Cause) → told (on_line n tried) ≡ mapped translation tried
 told_on n (Ok p) = refl
 told_on n (Err c) = refl
 
-names_on : (n : ℕ) (tried : Result Played Cause) → Names n (on_line n tried)
+names_on : (n : ℕ) (tried : Result (Option Operation) Cause) → Names n (on_line n tried)
 names_on n (Ok p) = tt
 names_on n (Err c) = refl
 
 -- the counts that an outcome adds are those of the answer
 module _ {R : Type 0} (d : Day R) where
-  added : (o : Result (Option (Edit × State R)) Cause) (tried : Result Played Cause) → mapped translation tried ≡ answer o →
+  added : (o : Result (Option (Edit × State R)) Cause) (tried : Result (Option Operation) Cause) → mapped translation tried ≡ answer o →
       ((counted d o).lines ≡ d.lines + 1) × ((counted d o).accepted ≡ d.accepted + accepts tried) × ((counted d o).refused ≡ d.refused + refuses tried) × ((counted d o).state ≡ state_then d.state o)
-  added (Ok None) (Ok Skipped) e = (refl, (omega arith), (omega arith), refl)
-  added (Ok None) (Ok (Accepted operation)) e = cc
+  added (Ok None) (Ok None) e = (refl, (omega arith), (omega arith), refl)
+  added (Ok None) (Ok (Some operation)) e = cc
   added (Ok None) (Err c) e = cc
-  added (Ok (Some a)) (Ok Skipped) e = cc
-  added (Ok (Some a)) (Ok (Accepted operation)) e = (refl, refl, (omega arith), refl)
+  added (Ok (Some a)) (Ok None) e = cc
+  added (Ok (Some a)) (Ok (Some operation)) e = (refl, refl, (omega arith), refl)
   added (Ok (Some a)) (Err c) e = cc
-  added (Err cause) (Ok Skipped) e = cc
-  added (Err cause) (Ok (Accepted operation)) e = cc
+  added (Err cause) (Ok None) e = cc
+  added (Err cause) (Ok (Some operation)) e = cc
   added (Err cause) (Err c) e = (refl, (omega arith), refl, refl)
 
-pub plays_line : {R : Type 0} (row : Columns R) (s u t : Replay R) (line : List ℕ) (tried : Result Played Cause) (r : Result Played LineFault) →
+pub plays_line : {R : Type 0} (row : Columns R) (s u t : Replay R) (line : List ℕ) (tried : Result (Option Operation) Cause) (r : Result (Option Operation) LineFault) →
     ended (day s) ≡ false → Tries row s line tried u → Counts u tried r t → PlaysLine row s line r t
 plays_line row s u t line tried r on a b =
     let few : s.lines ≤ 1000000 = ltb-false 1000000 s.lines on in

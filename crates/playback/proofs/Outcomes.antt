@@ -1,12 +1,11 @@
 -- What a line comes to, by what its reading and the pair answer.
-use Rattle.std.proofs.Common.{◌≡◌, ℕ, ◌-◌, ◌<◌, List, ◌++◌, length, take, drop, Some, None, Ok, Err, Option, Result, sym, refl, ap, ◌∙◌, arith}
+use Rattle.std.proofs.Common.{◌≡◌, ℕ, ◌<◌, List, ◌++◌, length, take, drop, Some, None, Ok, Err, Option, Result, sym, refl, ap, ◌∙◌}
 use lib.Seq.{take-append_seam}
 use Rattle.std.proofs.lemmas.Bool.{lt-ltb}
 use Rattle.kinds.specs.Answers.{◌>>=◌, test}
 use Rattle.links.specs.Columns.{Columns}
 use Rattle.frames.specs.Edits.{Edit, edit}
 use Rattle.frames.specs.Lines.{line_bytes, answer as line_answer, written}
-use Rattle.frames.specs.declared.line.LogLine.TheVariants.{Skipped, Bytes}
 use Rattle.frames.specs.declared.refusal.LineRefusal.{LineRefusal}
 use Rattle.frames.specs.declared.frame.Operation.{Operation}
 use Rattle.documents.specs.declared.fault.Fault.{Fault}
@@ -17,14 +16,14 @@ use Rattle.playback.specs.declared.fault.Cause.TheVariants.{TooManyLines, Frame}
 use Rattle.playback.specs.Days.{Day, read, taken, played, outcome, answer, state_then}
 
 -- the bytes that a line gives stand at the buffer's front
-pub bytes_read : (a : Result (Option (List ℕ)) LineRefusal) (before after : List ℕ) (count : ℕ) → Ok (Bytes count) ≡ line_answer a → after ≡ written a before → a ≡ Ok (Some (take count after))
+pub bytes_read : (a : Result (Option (List ℕ)) LineRefusal) (before after : List ℕ) (count : ℕ) → Ok (Some count) ≡ line_answer a → after ≡ written a before → a ≡ Ok (Some (take count after))
 bytes_read (Ok None) before after count e w = cc
 bytes_read (Ok (Some bs)) before after count e w =
     let n : count ≡ length bs = cc in
     ap (λ l. Ok (Some l)) (sym (take-append_seam bs (drop (length bs) before)) ∙ ap (λ k. take k (bs ++ drop (length bs) before)) (sym n) ∙ ap (take count) (sym w))
 bytes_read (Err r) before after count e w = cc
 
-pub skip_read : (a : Result (Option (List ℕ)) LineRefusal) → Ok Skipped ≡ line_answer a → a ≡ Ok None
+pub skip_read : (a : Result (Option (List ℕ)) LineRefusal) → Ok None ≡ line_answer a → a ≡ Ok None
 skip_read (Ok None) e = refl
 skip_read (Ok (Some bs)) e = cc
 skip_read (Err r) e = cc
@@ -57,12 +56,10 @@ module _ {R : Type 0} (row : Columns R) (day : Day R) (line : List ℕ) where
         ∙ ap (λ r. read r >>= played row day.state) is
 
   -- the line gives the bytes of a frame, which the code hands to the pair
-  pub frame_is : day.lines < 1000000 → (before after : List ℕ) (count : ℕ) → Ok (Bytes count) ≡ line_answer (line_bytes line 64) → after ≡ written (line_bytes line 64) before →
-      outcome row day line ≡ taken (attempt row day.state (take (count - 0) after))
+  pub frame_is : day.lines < 1000000 → (before after : List ℕ) (count : ℕ) → Ok (Some count) ≡ line_answer (line_bytes line 64) → after ≡ written (line_bytes line 64) before →
+      outcome row day line ≡ taken (attempt row day.state (take count after))
   frame_is few before after count answers writes =
-      let all : count - 0 ≡ count = omega arith in
       outcome_read few (Ok (Some (take count after))) (bytes_read (line_bytes line 64) before after count answers writes)
-      ∙ ap (λ n. taken (attempt row day.state (take n after))) (sym all)
 
 -- a frame that the pair answers
 module _ {R : Type 0} (a : Result (Edit × State R) Fault) (o : Result (Option (Edit × State R)) Cause) (is : o ≡ taken a) where

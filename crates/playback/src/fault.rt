@@ -23,6 +23,7 @@ pub struct LineFault {
     pub cause: Cause,
 }
 
+// Both by hand: a derived `From` promises nothing, and `?` is to say which cause it makes.
 impl From<LineRefusal> for Cause {
     ghost from_gives = { λ refusal cause. cause ≡ Line refusal };
 
@@ -40,7 +41,7 @@ impl From<Fault> for Cause {
 }
 
 impl LineFault {
-    // The number under which the refusal is reported.
+    // The number under which the refusal is reported. A match, since discriminants are for variants without fields.
     pub fn number(self) -> u8
         ensures { result ≡ cause_number self.cause }
     {
@@ -56,8 +57,7 @@ impl LineFault {
         ensures { result ≡ cause_position self.cause }
     {
         match self.cause {
-            Cause::TooManyLines => None,
-            Cause::Line(_) => None,
+            Cause::TooManyLines | Cause::Line(_) => None,
             Cause::Frame(fault) => fault.position(),
         }
     }
@@ -67,8 +67,7 @@ impl LineFault {
         ensures { result ≡ cause_column self.cause }
     {
         match self.cause {
-            Cause::TooManyLines => None,
-            Cause::Line(_) => None,
+            Cause::TooManyLines | Cause::Line(_) => None,
             Cause::Frame(fault) => fault.column(),
         }
     }

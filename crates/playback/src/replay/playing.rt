@@ -6,15 +6,13 @@ ghost use Rattle.logs.specs.Feeding.{midst};
 ghost use Rattle.pair.specs.State.{state};
 
 use crate::fault::{Cause, LineFault};
-use crate::played::Played;
 use crate::replay::Replay;
-use frames::line::{LogLine, read_line};
+use frames::frame::Operation;
+use frames::line::read_line;
 use links::rows::Rows;
+use logs::MOST_LINES;
 use logs::partial::PartialLine;
 use pair::pair::Pair;
-
-// The most lines of a log.
-const MOST_LINES: u64 = 1_000_000;
 
 impl<'p, 'a, R: Rows> Replay<'p, 'a, R> {
     // A replay over a pair, before the first line.
@@ -37,44 +35,41 @@ impl<'p, 'a, R: Rows> Replay<'p, 'a, R> {
         self.lines > MOST_LINES
     }
 
-    // Tries a line: its number, its characters, and then its frame.
-    fn try_line(&mut self, line: &[u8]) -> Result<Played, Cause>
+    // Tries a line: its number, its characters, and then its frame. The answer is the translation, none for a skipped line.
+    fn try_line(&mut self, line: &[u8]) -> Result<Option<Operation<'static>>, Cause>
         ensures { Tries R.Rows.columns self.old line.now result self.new }
     {
         if self.lines >= MOST_LINES {
             return Err(Cause::TooManyLines);
         }
         let mut buffer = [0u8; 64];
-        match read_line(line, &mut buffer)? {
-            LogLine::Skipped => Ok(Played::Skipped),
-            LogLine::Bytes(count) => Ok(Played::Accepted(self.pair.play(&buffer[0..count])?)),
-        }
+        let Some(count) = read_line(line, &mut buffer)? else {
+            return Ok(None);
+        };
+        Ok(Some(self.pair.play(&buffer[..count])?))
     }
 
     // Counts a line that was tried, and names it where it was refused.
-    fn count(&mut self, tried: Result<Played, Cause>) -> Result<Played, LineFault>
+    fn count(
+        &mut self,
+        tried: Result<Option<Operation<'static>>, Cause>,
+    ) -> Result<Option<Operation<'static>>, LineFault>
         requires { self.old.lines ≤ 1000000 }
-        ensures { Counts self.old tried result self.new }
+        ensures { Counts self.old tried.entry result self.new }
     {
         self.lines += 1;
         match tried {
-            Ok(played) => {
-                match played {
-                    Played::Skipped => {}
-                    Played::Accepted(_) => self.accepted += 1,
-                }
-                Ok(played)
-            }
-            Err(cause) => {
-                self.refused += 1;
-                let line = self.lines;
-                Err(LineFault { line, cause })
-            }
+            Ok(None) => {}
+            Ok(Some(_)) => self.accepted += 1,
+            Err(_) => self.refused += 1,
         }
+        let line = self.lines;
+        tried.map_err(|cause| LineFault { line, cause })
     }
 
-    // Plays a line. A refused line changes the counts and nothing else, and once the log has ended nothing counts.
-    pub fn play_line(&mut self, line: &[u8]) -> Result<Played, LineFault>
+    // Plays a line, and answers its translation, none for a skipped line. A refused line changes the counts and nothing else,
+    // and once the log has ended nothing counts.
+    pub fn play_line(&mut self, line: &[u8]) -> Result<Option<Operation<'static>>, LineFault>
         ensures { PlaysLine R.Rows.columns self.old line.now result self.new }
     {
         if self.has_ended() {

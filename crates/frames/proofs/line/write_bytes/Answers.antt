@@ -1,21 +1,23 @@
-use Rattle.std.proofs.Common.{◌≡◌, ◌+◌, ◌*◌, ◌/◌, ◌++◌, length, take, drop, set, sym, ap, ◌∙◌, arith}
-use Rattle.std.proofs.lemmas.List.{take_all}
-use Rattle.frames.proofs.Digits.{pairs, length_pairs, get_or_pairs, spelt_is, one_more}
+use Rattle.std.proofs.Common.{◌≡◌, ◌+◌, ◌*◌, ◌++◌, map, length, take, drop, set, sym, ap, ◌∙◌, arith}
+use Rattle.std.proofs.lemmas.List.{take_all, length-map, get_or-map}
+use Rattle.frames.proofs.Digits.{byte_of, chunked, spelt_is, one_more}
 use Rattle.frames.proofs.line.write_bytes.Goals as goal
 
-pub loop-i-preserved : goal.loop-i-preserved
-loop-i-preserved c =
-    let line = c.args.line.now in
-    let i = c.loop-i.i in
-    ap (λ b. set b i (c.value.result * 16 + c.value-in-loop-i.result)) c.loop-i.invariant
-    ∙ one_more (pairs line) c.args.buffer.now i _ (omega (arith, length_pairs line)) (omega arith)
-    ((λ k. c.value.ensures.same k * 16 + c.value-in-loop-i.ensures.same k) ∙ sym (get_or_pairs line i c.loop-i-test.true))
+pub loop-at-preserved : goal.loop-at-preserved
+loop-at-preserved c =
+    let chunks = c.as_chunks.result.0.now in
+    let bytes = map byte_of chunks in
+    let at = c.loop-at.at in
+    ap (λ b. set b at (c.value.result * 16 + c.value-in-loop-at.result)) c.loop-at.invariant
+    ∙ one_more bytes c.args.buffer.now at _ (omega (arith, length-map chunks byte_of, c.loop-at-test.true)) (omega arith)
+    ((λ k. c.value.ensures.same k * 16 + c.value-in-loop-at.ensures.same k) ∙ sym (get_or-map byte_of chunks at _ 0 c.loop-at-test.true))
 
 pub returns : goal.returns
 returns c bytes spells =
     let line = c.args.line.now in
-    let is = spelt_is line bytes spells in
-    let count : length bytes ≡ length line / 2 = ap length is ∙ length_pairs line in
-    let end : c.loop-i.i ≡ length bytes = omega arith in
-    let front : take c.loop-i.i (pairs line) ≡ bytes = take_all c.loop-i.i (pairs line) (omega (arith, ap length is)) ∙ sym is in
-    (sym count, c.loop-i.invariant ∙ (λ k. front k ++ drop (end k) c.args.buffer.now))
+    let chunks = c.as_chunks.result.0.now in
+    let is : map byte_of chunks ≡ bytes = ap (map byte_of) c.as_chunks.ensures.front ∙ chunked line ∙ sym (spelt_is line bytes spells) in
+    let count : length chunks ≡ length bytes = sym (length-map chunks byte_of) ∙ ap length is in
+    let end : c.loop-at.at ≡ length bytes = omega (arith, count) in
+    let front : take c.loop-at.at (map byte_of chunks) ≡ bytes = take_all c.loop-at.at (map byte_of chunks) (omega (arith, ap length is)) ∙ is in
+    (count, c.loop-at.invariant ∙ (λ k. front k ++ drop (end k) c.args.buffer.now))

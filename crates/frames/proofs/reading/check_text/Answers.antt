@@ -1,15 +1,13 @@
-use Rattle.std.proofs.Common.{sym, ap, ◌∙◌}
+use Rattle.std.proofs.Common.{sym, ap, ◌∙◌, rules}
+use borrow.Author.Tests.{tests}
+use Rattle.std.proofs.lemmas.Iterator.{YieldsList-from_slice}
+use Rattle.std.proofs.lemmas.Iterator.Search.{all_from_yields_List}
 use Rattle.kinds.specs.Answers.{test}
 use Rattle.frames.specs.declared.refusal.FrameRefusal.TheVariants.{UnprintableText}
-use Rattle.frames.proofs.Texts.{go_on, stop, printed}
+use Rattle.frames.specs.Frames.{is_printable}
 use Rattle.frames.proofs.reading.check_text.Goals as goal
 
-pub returns-then-not-is_printable : goal.returns-then-not-is_printable
-returns-then-not-is_printable c =
-    sym (ap (λ b. test b UnprintableText) (sym c.loop-byte.invariant ∙ stop _ _ c.loop-byte-test.true (sym c.if-not-is_printable.ensures)))
-
-pub loop-byte-preserved : goal.loop-byte-preserved
-loop-byte-preserved c = go_on _ _ c.loop-byte-test.true (sym c.if-not-is_printable.ensures) ∙ c.loop-byte.invariant
-
-pub returns : goal.returns
-returns c = sym (ap (λ b. test b UnprintableText) (sym c.loop-byte.invariant ∙ printed _ _ c.loop-byte-test.false))
+pub returns-then-all : goal.returns-then-all
+returns-then-all c =
+    ap (λ b. test b UnprintableText)
+    (sym c.if-all.true ∙ all_from_yields_List is_printable _ _ _ c.all.ensures.ran (YieldsList-from_slice c.args.text.now cc) (λ x b q k. search (rules, tests)))

@@ -6,11 +6,11 @@ use Rattle.playback.specs.States.{day}
 use Rattle.playback.proofs.Outcomes.{refusal_read, skip_read, outcome_read, frame_is, frame_accepted, frame_refused, frame_leaves}
 use Rattle.playback.proofs.replay.Replay.try_line.Goals as goal
 
-pub returns-in_err-read_line : goal.returns-in_err-read_line
-returns-in_err-read_line g c =
+pub returns-in_err-count : goal.returns-in_err-count
+returns-in_err-count g c =
     let s = c.args.self.now in
     let p = err_from_is_err_and c.from_residual.result c.from_residual.ensures.1 in
-    let a = refusal_read _ _ (sym c.in_err-read_line.was ∙ c.read_line.ensures.answers) in
+    let a = refusal_read _ _ (sym c.in_err-count.was ∙ c.read_line.ensures.answers) in
     let o = outcome_read g.R.Rows.columns (day s) c.args.line.now (omega arith) _ a in
     rw (p.1, p.2) record {
       answers = sym (ap answer o);
@@ -21,10 +21,10 @@ returns-in_err-read_line g c =
       start_stays = refl;
     }
 
-pub returns-in-Skipped : goal.returns-in-Skipped
-returns-in-Skipped g c =
+pub returns-in_default : goal.returns-in_default
+returns-in_default g c =
     let s = c.args.self.now in
-    let a = skip_read _ (sym (c.in_ok-read_line.was ∙ ap Ok c.in-Skipped.is) ∙ c.read_line.ensures.answers) in
+    let a = skip_read _ (sym (c.in_ok-count.was ∙ ap Ok c.in_default.is) ∙ c.read_line.ensures.answers) in
     let o = outcome_read g.R.Rows.columns (day s) c.args.line.now (omega arith) _ a in
     record {
       answers = sym (ap answer o);
@@ -35,14 +35,14 @@ returns-in-Skipped g c =
       start_stays = refl;
     }
 
-pub returns-in_err-play-in-Bytes : goal.returns-in_err-play-in-Bytes
-returns-in_err-play-in-Bytes g c =
+pub returns-in_err-play : goal.returns-in_err-play
+returns-in_err-play g c =
     let s = c.args.self.now in
-    let p = err_from_is_err_and c.from_residual-in_err-play-in-Bytes.result c.from_residual-in_err-play-in-Bytes.ensures.1 in
-    let f = frame_is g.R.Rows.columns (day s) c.args.line.now (omega arith) _ c.read_line.new.buffer c.in-Bytes.count (sym (c.in_ok-read_line.was ∙ ap Ok c.in-Bytes.is) ∙ c.read_line.ensures.answers) c.read_line.ensures.writes in
+    let p = err_from_is_err_and c.from_residual-in_err-play.result c.from_residual-in_err-play.ensures.1 in
+    let f = frame_is g.R.Rows.columns (day s) c.args.line.now (omega arith) _ c.read_line.new.buffer c.in-Some.count (sym (c.in_ok-count.was ∙ ap Ok c.in-Some.is) ∙ c.read_line.ensures.answers) c.read_line.ensures.writes in
     let h = c.play.ensures in
     rw (p.1, p.2) record {
-      answers = frame_refused _ _ f _ (sym (ap said c.in_err-play-in-Bytes.was) ∙ h.answers);
+      answers = frame_refused _ _ f _ (sym (ap said c.in_err-play.was) ∙ h.answers);
       leaves = frame_leaves _ _ f _ (state c.play.new.self) h.leaves;
       lines_stay = refl;
       accepted_stay = refl;
@@ -50,13 +50,13 @@ returns-in_err-play-in-Bytes g c =
       start_stays = refl;
     }
 
-pub returns-in_ok-play-in-Bytes : goal.returns-in_ok-play-in-Bytes
-returns-in_ok-play-in-Bytes g c =
+pub returns : goal.returns
+returns g c =
     let s = c.args.self.now in
-    let f = frame_is g.R.Rows.columns (day s) c.args.line.now (omega arith) _ c.read_line.new.buffer c.in-Bytes.count (sym (c.in_ok-read_line.was ∙ ap Ok c.in-Bytes.is) ∙ c.read_line.ensures.answers) c.read_line.ensures.writes in
+    let f = frame_is g.R.Rows.columns (day s) c.args.line.now (omega arith) _ c.read_line.new.buffer c.in-Some.count (sym (c.in_ok-count.was ∙ ap Ok c.in-Some.is) ∙ c.read_line.ensures.answers) c.read_line.ensures.writes in
     let h = c.play.ensures in
     record {
-      answers = frame_accepted _ _ f _ (sym (ap said c.in_ok-play-in-Bytes.was) ∙ h.answers);
+      answers = frame_accepted _ _ f _ (sym (ap said c.in_ok-play.was) ∙ h.answers);
       leaves = frame_leaves _ _ f _ (state c.play.new.self) h.leaves;
       lines_stay = refl;
       accepted_stay = refl;
