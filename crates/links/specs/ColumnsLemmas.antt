@@ -114,6 +114,6 @@ module _ {A B C D : Type 0} (k : Lens A) (k_law : Lawful k) (l : Lens B) (l_law 
   row_lawful = record { each = each; apart = apart; beyond = beyond }
 
 -- the law of one direction of a column
-pub column_sends : {R : Type 0} (count : ℕ) (links : Columns R) → LawfulRow count links → (side : Side) (c : ℕ) → c < count → Sends (column_way links side c)
-column_sends count links law Left c h = (law.each c h).sends Left
-column_sends count links law Right c h = (law.each c h).sends Right
+pub column_sends : {R : Type 0} (count : ℕ) (parts : Columns R) → LawfulRow count parts → (side : Side) (c : ℕ) → c < count → Sends (column_way parts side c)
+column_sends count parts law Left c h = (law.each c h).sends Left
+column_sends count parts law Right c h = (law.each c h).sends Right
