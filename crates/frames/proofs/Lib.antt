@@ -1,5 +1,4 @@
 mod Digits
 mod Readings
-mod Texts
 pub mod Bounds
 pub mod Sayings

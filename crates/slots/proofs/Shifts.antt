@@ -1,20 +1,12 @@
 -- What a copy of a part of the table by one slot does to the items in front of it.
-use Rattle.std.proofs.Common.{◌≡◌, ℕ, ◌+◌, ◌-◌, ◌<◌, ◌≤◌, min, List, ◌++◌, length, get_or, take, drop, set, sym, ap, ◌∙◌, ⊎_elim, add-one, arith, rules}
-use lib.Seq.{paste, take-length, take-set-lt}
+use Rattle.std.proofs.Common.{◌≡◌, ℕ, ◌+◌, ◌-◌, ◌<◌, ◌≤◌, List, ◌++◌, length, get_or, take, drop, set, sym, ap, ◌∙◌, add-one, arith, rules}
+use lib.Seq.{paste, take-set-lt}
 use Rattle.std.specs.List.{insert, remove, AllByRecursion}
-use Rattle.std.proofs.lemmas.List.{places, same_lists, get_or-take, get_or-set_same, set_split, take_all, length-take}
+use Rattle.std.proofs.lemmas.List.{places, same_lists, get_or-take, get_or-set_same, set_split, length-take}
 use Rattle.std.proofs.ByRecursion.{All-append, All-take, All-drop}
-use Rattle.std.proofs.lemmas.Bool.{cases_lt, cases_eq}
+use Rattle.std.proofs.lemmas.Bool.{cases_eq}
 use Rattle.slots.specs.Slots.{moved}
 use Rattle.slots.proofs.Slots.{moved_is}
-
--- as many items as are asked for, or all
-pub take_min : {X : Type 0} (n : ℕ) (xs : List X) → take n xs ≡ take (min n (length xs)) xs
-take_min n xs =
-    ⊎_elim
-    (λ (h : n < length xs). let e : min n (length xs) ≡ n = omega arith in rw e)
-    (λ (h : length xs ≤ n). let e : min n (length xs) ≡ length xs = omega arith in rw (e, take_all n xs h, take-length xs))
-    (cases_lt n (length xs))
 
 -- what holds of each slot holds of each after a part of the table is copied to another place
 pub all_copied : {X : Type 0} (P : X → Type 0) (xs : List X) (a b n : ℕ) → AllByRecursion P xs → AllByRecursion P (paste xs a (drop b xs) n)
