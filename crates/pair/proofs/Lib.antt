@@ -1,5 +1,4 @@
 mod States
-mod Filling
 mod Finding
 mod Kept
 mod Moving

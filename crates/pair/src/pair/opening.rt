@@ -13,15 +13,6 @@ use slots::SlotList;
 // The most lines of a sheet.
 const MOST_LINES: usize = 256;
 
-// Copies an item into every slot.
-fn fill<T: Copy>(slots: &mut [T], item: T)
-    ensures { slots.new ≡ replicate (length slots.old) item }
-{
-    for i in 0..slots.len() {
-        slots[i] = item;
-    }
-}
-
 impl<'a, R: Rows> Pair<'a, R> {
     // Opens a pair over lent slots, both documents empty. It holds as many lines as the shortest of the three has slots, and
     // at most 256.
@@ -38,7 +29,7 @@ impl<'a, R: Rows> Pair<'a, R> {
         let size = MOST_LINES.min(lines.len().min(records.len().min(links.len())));
         let mut blank = pattern;
         blank.reset();
-        fill(links, blank);
+        links.fill_with(|| blank);
         Pair {
             size,
             blank,
