@@ -1,8 +1,7 @@
 -- What an edit of the three lists keeps, and what it makes of the sheet.
-use Rattle.std.proofs.Common.{◌≡◌, ℕ, zero, suc, ◌+◌, ◌<◌, ◌≤◌, true, false, List, [], ◌∷◌, length, take, drop, set, Some as some, Result, sym, refl, ap, ◌∙◌, arith, length-set}
+use Rattle.std.proofs.Common.{◌≡◌, ℕ, ◌+◌, ◌<◌, ◌≤◌, true, false, List, length, set, Result, sym, refl, ap, ◌∙◌, arith, length-set}
 use lib.ListN.{length-map}
 use Rattle.std.specs.List.{insert, remove}
-use Rattle.std.proofs.lemmas.List.{take-map, drop-map, map-append, map-set}
 use Rattle.std.proofs.lemmas.List.Edits.{length-insert, length-remove}
 use Rattle.slots.specs.declared.list.SlotList.{SlotList}
 use Rattle.slots.specs.declared.refusal.Refusal.{Refusal}
@@ -10,7 +9,8 @@ use Rattle.slots.proofs.Slots.{sets_surely, inserts_surely, removes_surely}
 use Rattle.slots.specs.Slots.{items, room, Edited as ListEdited, Inserts, Sets, Removes}
 use Rattle.documents.specs.Documents.{Line, line, record_line, remark_line, item, records_of, records_before}
 use Rattle.documents.specs.Across.{is_record}
-use Rattle.documents.proofs.Places.{before_within, records_inserted, remark_inserted, records_removed, remark_removed, record_below, record_set, item_below}
+use Rattle.documents.proofs.Places.{before_within, records_within, records_inserted, remark_inserted, records_removed, remark_removed, record_below, record_set, item_below}
+use Rattle.documents.proofs.Finding.{sheet_inserted, sheet_set, sheet_removed, told_record, told_remark}
 use Rattle.documents.specs.declared.line.Line.{Line as StoredLine}
 use Rattle.documents.specs.declared.line.Remark.{Remark as Noted}
 use Rattle.documents.specs.declared.line.Line.TheVariants.{Record, Remark}
@@ -37,38 +37,10 @@ removes_hold s t at r lt h = holds s t _ _ (removes_surely s t at r lt h)
 pub held : {X : Type 0} (s : SlotList X) → Holds s s (items s)
 held s = record { items_are = refl; same_room = refl }
 
-pub written_inserted : (xs : List StoredLine) (p : ℕ) (x : StoredLine) → written (insert xs p x) ≡ insert (written xs) p (line x)
-written_inserted xs p x = map-append line (take p xs) (x ∷ drop p xs) ∙ sym (simp (take-map, drop-map))
-
-pub written_set : (xs : List StoredLine) (p : ℕ) (x : StoredLine) → written (set xs p x) ≡ set (written xs) p (line x)
-written_set xs p x = map-set line xs p x
-
-pub written_removed : (xs : List StoredLine) (p : ℕ) → written (remove xs p) ≡ remove (written xs) p
-written_removed xs p = map-append line (take p xs) (drop (suc p) xs) ∙ sym (simp (take-map, drop-map))
-
-pub told_remark : (ls : List Line) (p : ℕ) → p < length ls → is_record (item ls p) ≡ false → (t : List ℕ) × (item ls p ≡ some (remark_line t))
-told_remark [] p lt h = absurd (omega arith)
-told_remark (record_line x ∷ ls) zero lt h = let z : ◌≡◌ {A = ℕ} 0 1 = cc in absurd (omega arith)
-told_remark (remark_line t ∷ ls) zero lt h = (t, refl)
-told_remark (l ∷ ls) (suc p) lt h = told_remark ls p (omega arith) h
-
 pub counted_dropped : (xs : List StoredLine) (p : ℕ) → p < length xs → is_record (item (written xs) p) ≡ false → length (records_of (written (remove xs p))) ≡ length (records_of (written xs))
 counted_dropped xs p lt h =
     let t = told_remark (written xs) p (omega (arith, length-map xs line)) h in
-    ap (λ v. length (records_of v)) (written_removed xs p) ∙ ap length (remark_removed (written xs) p t.0 t.1)
-
--- a record line has a place among the records
-pub told_record : (ls : List Line) (p : ℕ) → is_record (item ls p) ≡ true → (x : List ℕ) × (item ls p ≡ some (record_line x))
-told_record [] p h = let z : ◌≡◌ {A = ℕ} 0 1 = cc in absurd (omega arith)
-told_record (record_line x ∷ ls) zero h = (x, refl)
-told_record (remark_line t ∷ ls) zero h = let z : ◌≡◌ {A = ℕ} 0 1 = cc in absurd (omega arith)
-told_record (l ∷ ls) (suc p) h = told_record ls p h
-
--- no more records than lines
-pub records_few : (ls : List Line) → length (records_of ls) ≤ length ls
-records_few [] = omega arith
-records_few (record_line x ∷ ls) = omega (arith, records_few ls)
-records_few (remark_line t ∷ ls) = omega (arith, records_few ls)
+    ap (λ v. length (records_of v)) (sheet_removed xs p) ∙ ap length (remark_removed (written xs) p t.0 t.1)
 
 module _ (xs : List StoredLine) (ys : List (List ℕ)) (p j : ℕ) (counted : length (records_of (written xs)) ≡ length ys) (at : j ≡ records_before p (written xs)) where
   pub j_within : j ≤ length ys
@@ -76,7 +48,7 @@ module _ (xs : List StoredLine) (ys : List (List ℕ)) (p j : ℕ) (counted : le
 
   pub counted_inserted : (x : List ℕ) → length (records_of (written (insert xs p (Record x)))) ≡ length (insert ys j x)
   counted_inserted x =
-      let e = ap (λ v. length (records_of v)) (written_inserted xs p (Record x)) ∙ ap length (records_inserted (written xs) p x) in
+      let e = ap (λ v. length (records_of v)) (sheet_inserted xs p (Record x)) ∙ ap length (records_inserted (written xs) p x) in
       e ∙ length-insert (records_of (written xs)) (records_before p (written xs)) x (before_within (written xs) p) ∙ ap (λ n. n + 1) counted ∙ sym (length-insert ys j x j_within)
 
   module _ (is : is_record (item (written xs) p) ≡ true) where
@@ -89,13 +61,13 @@ module _ (xs : List StoredLine) (ys : List (List ℕ)) (p j : ℕ) (counted : le
     pub counted_set : (x y : List ℕ) → length (records_of (written (set xs p (Record x)))) ≡ length (set ys j y)
     counted_set x y =
         let h = told_record (written xs) p is in
-        ap (λ v. length (records_of v)) (written_set xs p (Record x)) ∙ ap length (record_set (written xs) p h.0 x h.1)
+        ap (λ v. length (records_of v)) (sheet_set xs p (Record x)) ∙ ap length (record_set (written xs) p h.0 x h.1)
         ∙ length-set (records_of (written xs)) (records_before p (written xs)) x ∙ counted ∙ sym (length-set ys j y)
 
     pub counted_removed : length (records_of (written (remove xs p))) ≡ length (remove ys j)
     counted_removed =
         let h = told_record (written xs) p is in
-        let e = ap (λ v. length (records_of v)) (written_removed xs p) ∙ ap length (records_removed (written xs) p h.0 h.1) in
+        let e = ap (λ v. length (records_of v)) (sheet_removed xs p) ∙ ap length (records_removed (written xs) p h.0 h.1) in
         let a = length-remove (records_of (written xs)) (records_before p (written xs)) (record_below (written xs) p h.0 h.1) in
         let b = length-remove ys j j_below in
         omega arith
@@ -128,13 +100,13 @@ module _ {R : Type 0} (s : Pair R) (ls : SlotList StoredLine) (rs : SlotList (Li
     added x y z le lt f g h =
         let xs = items s.lines in
         let n = length-map xs line in
-        let few = records_few (written xs) in
+        let few = records_within (written xs) in
         let le_j = j_within xs (items s.records) p j s.counted at in
         edited (insert xs p (Record x)) _ _ _
         (inserts_hold s.lines ls p (Record x) a (omega arith) (omega (arith, s.roomy.0)) f)
         (inserts_hold s.records rs j y b (omega arith) (omega (arith, s.roomy.1, s.counted)) g)
         (inserts_hold s.links ks j z c (omega (arith, s.linked)) (omega (arith, s.roomy.2, s.counted, s.linked)) h)
-        (written_inserted xs p (Record x))
+        (sheet_inserted xs p (Record x))
         (counted_inserted xs (items s.records) p j s.counted at x ∙ length-insert _ j x le_j ∙ sym (length-insert _ j y le_j))
         (length-insert (items s.links) j z (omega (arith, s.linked)) ∙ ap (λ n. n + 1) s.linked ∙ sym (length-insert _ j y le_j))
 
@@ -149,7 +121,7 @@ module _ {R : Type 0} (s : Pair R) (ls : SlotList StoredLine) (rs : SlotList (Li
         (sets_hold s.lines ls p (Record x) a lt_p f)
         (sets_hold s.records rs j y b lt_j g)
         (sets_hold s.links ks j z c (omega (arith, s.linked)) h)
-        (written_set xs p (Record x))
+        (sheet_set xs p (Record x))
         (counted_set xs (items s.records) p j s.counted at is x y)
         (length-set (items s.links) j z ∙ s.linked ∙ sym (length-set (items s.records) j y))
 
@@ -166,7 +138,7 @@ module _ {R : Type 0} (s : Pair R) (ls : SlotList StoredLine) (rs : SlotList (Li
         let n = length-remove (items s.records) j lt_j in
         edited (remove xs p) _ _ _
         (removes_hold s.lines ls p u lt_p f) (removes_hold s.records rs j v lt_j g) (removes_hold s.links ks j w lt_k h)
-        (written_removed xs p) (counted_removed xs (items s.records) p j s.counted at is) (omega (arith, s.linked))
+        (sheet_removed xs p) (counted_removed xs (items s.records) p j s.counted at is) (omega (arith, s.linked))
 
 pub dropped : {R : Type 0} (s : Pair R) (ls : SlotList StoredLine) (p : ℕ) (u : Result StoredLine Refusal) → p < length (written (items s.lines)) → is_record (item (written (items s.lines)) p) ≡ false →
     Removes s.lines p u ls → Edited s ls s.records s.links (remove (written (items s.lines)) p) (items s.records) (items s.links)
@@ -175,7 +147,7 @@ dropped s ls p u lt is f =
     let lt_p : p < length xs = omega (arith, length-map xs line) in
     edited s ls s.records s.links (remove xs p) _ _ _ (removes_hold s.lines ls p u lt_p f)
     (held s.records) (held s.links)
-    (written_removed xs p) (counted_dropped xs p lt_p is ∙ s.counted) s.linked
+    (sheet_removed xs p) (counted_dropped xs p lt_p is ∙ s.counted) s.linked
 
 pub noted : {R U : Type 0} (s : Pair R) (ls : SlotList StoredLine) (p : ℕ) (m : Noted) (u : Result U Refusal) → p ≤ length (written (items s.lines)) → length (written (items s.lines)) < s.size →
     Inserts s.lines p (Remark m) u ls → Edited s ls s.records s.links (insert (written (items s.lines)) p (remark_line (text m))) (items s.records) (items s.links)
@@ -184,5 +156,5 @@ noted s ls p m u le lt f =
     let n = length-map xs line in
     edited s ls s.records s.links (insert xs p (Remark m)) _ _ _ (inserts_hold s.lines ls p (Remark m) u (omega arith) (omega (arith, s.roomy.0)) f)
     (held s.records) (held s.links)
-    (written_inserted xs p (Remark m))
-    (ap (λ v. length (records_of v)) (written_inserted xs p (Remark m)) ∙ ap length (remark_inserted (written xs) p (text m)) ∙ s.counted) s.linked
+    (sheet_inserted xs p (Remark m))
+    (ap (λ v. length (records_of v)) (sheet_inserted xs p (Remark m)) ∙ ap length (remark_inserted (written xs) p (text m)) ∙ s.counted) s.linked

@@ -1,5 +1,3 @@
-mod States
-mod Finding
 mod Kept
 mod Moving
 mod Trying

@@ -7,7 +7,7 @@ use Rattle.documents.specs.Documents.{Line, record_line, item, line_row}
 use Rattle.documents.specs.Across.{is_record}
 use Rattle.documents.proofs.Places.{item_there, set_item}
 use Rattle.pair.specs.Cells.{mapped, row_at}
-use Rattle.pair.proofs.Kept.{told_record}
+use Rattle.documents.proofs.Finding.{told_record}
 
 -- a record line keeps its row
 pub row_kept : (ls : List Line) (told p : ℕ) (a : Result (List ℕ) Fault) → is_record (item ls p) ≡ true → a ≡ row_at told p ls → mapped (λ y. set ls p (record_line y)) a ≡ Ok ls

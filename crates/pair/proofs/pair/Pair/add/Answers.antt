@@ -1,5 +1,5 @@
 use Rattle.std.proofs.Common.{refl}
-use Rattle.pair.proofs.States.{same_state}
+use Rattle.documents.proofs.Finding.{same_state}
 use Rattle.pair.proofs.Kept.{added}
 use Rattle.pair.proofs.pair.Pair.add.Goals as goal
 

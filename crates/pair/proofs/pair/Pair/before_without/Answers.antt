@@ -1,7 +1,7 @@
 use Rattle.std.proofs.Common.{◌≡◌, ◌+◌, sym, ap, ◌∙◌, arith}
 use Rattle.documents.specs.Documents.{records_before}
 use Rattle.pair.specs.State.{state}
-use Rattle.pair.proofs.Moving.{before_removed, before_removed_past, before_removed_below}
+use Rattle.documents.proofs.Finding.{before_removed, before_removed_past, before_removed_below}
 use Rattle.pair.proofs.pair.Pair.before_without.Goals as goal
 
 pub returns-then-q-p : goal.returns-then-q-p

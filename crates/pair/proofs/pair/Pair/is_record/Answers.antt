@@ -2,7 +2,7 @@ use Rattle.std.proofs.Common.{Some, sym, ap, ◌∙◌}
 use Rattle.slots.specs.Slots.{items}
 use Rattle.documents.specs.Documents.{line}
 use Rattle.documents.specs.Across.{is_record}
-use Rattle.pair.proofs.Finding.{line_got, no_line}
+use Rattle.documents.proofs.Finding.{line_got, no_line}
 use Rattle.pair.proofs.pair.Pair.is_record.Goals as goal
 
 pub returns-in-Record : goal.returns-in-Record

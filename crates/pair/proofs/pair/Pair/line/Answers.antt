@@ -2,7 +2,7 @@ use Rattle.std.proofs.Common.{sym, ap}
 use Rattle.slots.specs.Slots.{items}
 use Rattle.kinds.specs.Answers.{need}
 use Rattle.documents.specs.declared.fault.Fault.TheVariants.{NotInDocument}
-use Rattle.pair.proofs.Finding.{line_got, no_line}
+use Rattle.documents.proofs.Finding.{line_got, no_line}
 use Rattle.pair.proofs.pair.Pair.line.Goals as goal
 
 pub returns-in-Ok : goal.returns-in-Ok

@@ -1,9 +1,10 @@
-use Rattle.std.proofs.Common.{◌≡◌, ◌<◌, length, arith, rules}
+use Rattle.std.proofs.Common.{◌≡◌, ◌<◌, length, ap, arith, rules}
+use Rattle.std.proofs.lemmas.List.{drop_all}
 use lib.ListN.{length-map}
 use Rattle.slots.specs.Slots.{items}
 use Rattle.documents.specs.Documents.{line, line_of}
 use Rattle.pair.specs.Written.{written}
-use Rattle.pair.proofs.Finding.{line_here, line_past, line_over, line_none, line_of_is}
+use Rattle.documents.proofs.Finding.{line_here, line_past, line_over, line_of_is}
 use Rattle.pair.proofs.pair.Pair.line_of.Goals as goal
 use Rattle.pair.proofs.pair.Pair.line_of.Goals.{then-is_record+else-left-eq0, else-is_record}
 
@@ -27,6 +28,6 @@ loop-i-preserved g c =
 pub returns : goal.returns
 returns g c =
     let s = c.args.self.now in
-    let h : c.len-end.result ≡ line_of c.args.j (written (items s.lines)) = omega (arith, c.loop-i.invariant, line_none (items s.lines) c.loop-i.i c.loop-i.left (omega arith)) in
+    let h : c.len-end.result ≡ line_of c.args.j (written (items s.lines)) = omega (arith, c.loop-i.invariant, ap (line_of c.loop-i.left) (drop_all c.loop-i.i (written (items s.lines)) (omega (arith, length-map (items s.lines) line)))) in
     let r = line_of_is (written (items s.lines)) (length (items s.records)) c.args.j c.len-end.result s.counted h in
     record { value = r.value; within = r.within; number = r.number; found = r.found }

@@ -2,7 +2,7 @@ use Rattle.std.proofs.Common.{sym, ap}
 use Rattle.slots.specs.Slots.{items}
 use Rattle.kinds.specs.Answers.{need}
 use Rattle.documents.specs.declared.fault.Fault.TheVariants.{NotInDocument}
-use Rattle.pair.proofs.Finding.{got, not_got}
+use Rattle.documents.proofs.Finding.{got, not_got}
 use Rattle.pair.proofs.pair.Pair.link.Goals as goal
 
 pub returns-in-Ok : goal.returns-in-Ok

@@ -1,8 +1,8 @@
-use Rattle.std.proofs.Common.{◌≡◌, List, [], ◌∷◌, length, replicate, sym, refl, ap, ◌∙◌, subst, rules}
+use Rattle.std.proofs.Common.{◌≡◌, List, [], ◌∷◌, length, replicate, refl, ap, ◌∙◌, subst, rules}
 use Rattle.std.specs.List.{FoldsTo}
 use Rattle.documents.proofs.Runs.{promise}
 use Rattle.pair.specs.Written.{written}
-use Rattle.pair.proofs.States.{same_state}
+use Rattle.documents.proofs.Finding.{same_state}
 use Rattle.pair.proofs.pair.Pair.open.Goals as goal
 
 -- what calls give that all answer x and leave the closure as it was

@@ -4,7 +4,7 @@ use Rattle.slots.specs.Slots.{items}
 use Rattle.documents.specs.declared.fault.Fault.TheVariants.{NotInDocument, NotARecord}
 use Rattle.documents.specs.Documents.{line, line_row}
 use Rattle.documents.specs.Across.{is_record}
-use Rattle.pair.proofs.Finding.{line_got, no_line}
+use Rattle.documents.proofs.Finding.{line_got, no_line}
 use Rattle.pair.proofs.pair.Pair.row.Goals as goal
 
 pub returns-in-Record : goal.returns-in-Record

@@ -1,5 +1,5 @@
 use Rattle.std.proofs.Common.{refl}
-use Rattle.pair.proofs.States.{same_state}
+use Rattle.documents.proofs.Finding.{same_state}
 use Rattle.pair.proofs.Moving.{shifted}
 use Rattle.pair.proofs.pair.Pair.shift.Goals as goal
 
