@@ -15,13 +15,7 @@ impl<'a, R: Rows> Pair<'a, R> {
     pub(crate) fn is_record(&self, p: usize) -> bool
         ensures { result ≡ is_record (item (state self.now).lines p) }
     {
-        match self.lines.get(p) {
-            Ok(line) => match line {
-                Line::Record(_) => true,
-                Line::Remark(_) => false,
-            },
-            Err(_) => false,
-        }
+        matches!(self.lines.get(p), Ok(line) if line.is_record())
     }
 
     // How many of the first `p` lines are records.
@@ -30,14 +24,8 @@ impl<'a, R: Rows> Pair<'a, R> {
         ensures within { result ≤ length (state self.now).records }
         ensures below { is_record (item (state self.now).lines p) ≡ true → result < length (state self.now).records }
     {
-        let mut n = 0;
-        let end = p.min(self.lines.len());
-        for i in 0..end {
-            if self.is_record(i) {
-                n += 1;
-            }
-        }
-        n
+        let lines = self.lines.as_slice();
+        lines.iter().take(p).filter(|line| line.is_record()).count()
     }
 
     // The position of the record line that has `j` record lines before it, or the end.
@@ -47,17 +35,17 @@ impl<'a, R: Rows> Pair<'a, R> {
         ensures number { j ≤ length (state self.now).records → j ≡ records_before result (state self.now).lines }
         ensures found { j < length (state self.now).records → (result < length (state self.now).lines) × (is_record (item (state self.now).lines result) ≡ true) }
     {
+        let lines = self.lines.as_slice();
         let mut left = j;
-        let end = self.lines.len();
-        for i in 0..end {
-            if self.is_record(i) {
+        for (i, line) in lines.iter().enumerate() {
+            if line.is_record() {
                 if left == 0 {
                     return i;
                 }
                 left -= 1;
             }
         }
-        end
+        lines.len()
     }
 
     // Where record `j` goes that comes from the table.

@@ -1,6 +1,7 @@
 // What a pair holds.
 ghost use Rattle.std.specs.Prelude.{◌≡◌, ◌<◌, true, length, Ok, Err};
 ghost use Rattle.kinds.specs.Answers.{need};
+ghost use Rattle.slots.specs.Slots.{items};
 ghost use Rattle.documents.specs.declared.fault.Fault.TheVariants.{NotInDocument};
 ghost use Rattle.documents.specs.Documents.{item, line};
 ghost use Rattle.documents.specs.Across.{is_record};
@@ -12,6 +13,13 @@ use documents::fault::Fault;
 use documents::line::Line;
 use links::rows::Rows;
 use slots::SlotList;
+
+// The item of a list at a position; a refusal is told at another position.
+fn item_at<T: Copy>(list: &SlotList<'_, T>, at: usize, told: usize) -> Result<T, Fault>
+    ensures { result ≡ need (item (items list.now) at) (NotInDocument told) }
+{
+    list.get(at).map_err(|_| Fault::NotInDocument { position: told })
+}
 
 impl<'a, R: Rows> Pair<'a, R> {
     // The most lines that the sheet may have.
@@ -39,17 +47,14 @@ impl<'a, R: Rows> Pair<'a, R> {
     pub fn line(&self, at: usize) -> Result<Line, Fault>
         ensures { mapped line result ≡ need (item (state self.now).lines at) (NotInDocument at) }
     {
-        match self.lines.get(at) {
-            Ok(line) => Ok(line),
-            Err(_) => Err(Fault::NotInDocument { position: at }),
-        }
+        item_at(&self.lines, at, at)
     }
 
     // The record at a position.
     pub fn record(&self, at: usize) -> Result<[u32; 4], Fault>
         ensures { result ≡ need (item (state self.now).records at) (NotInDocument at) }
     {
-        self.record_at(at, at)
+        item_at(&self.records, at, at)
     }
 
     // The row of line `p`; a refusal is told at another position.
@@ -57,13 +62,8 @@ impl<'a, R: Rows> Pair<'a, R> {
         ensures value { result ≡ row_at told p (state self.now).lines }
         ensures there { elim result [ Ok _ ↦ is_record (item (state self.now).lines p) ≡ true | Err _ ↦ Unit {0} ] }
     {
-        match self.lines.get(p) {
-            Ok(line) => match line {
-                Line::Record(row) => Ok(row),
-                Line::Remark(_) => Err(Fault::NotARecord { position: told }),
-            },
-            Err(_) => Err(Fault::NotInDocument { position: told }),
-        }
+        let line = item_at(&self.lines, p, told)?;
+        line.row().ok_or(Fault::NotARecord { position: told })
     }
 
     // The row of record `j`; a refusal is told at another position.
@@ -71,19 +71,13 @@ impl<'a, R: Rows> Pair<'a, R> {
         ensures value { result ≡ need (item (state self.now).records j) (NotInDocument told) }
         ensures below { elim result [ Ok _ ↦ j < length (state self.now).records | Err _ ↦ Unit {0} ] }
     {
-        match self.records.get(j) {
-            Ok(row) => Ok(row),
-            Err(_) => Err(Fault::NotInDocument { position: told }),
-        }
+        item_at(&self.records, j, told)
     }
 
     // The link of record `j`; a refusal is told at another position.
     pub(crate) fn link(&self, j: usize, told: usize) -> Result<R, Fault>
         ensures { result ≡ need (item (state self.now).links j) (NotInDocument told) }
     {
-        match self.links.get(j) {
-            Ok(link) => Ok(link),
-            Err(_) => Err(Fault::NotInDocument { position: told }),
-        }
+        item_at(&self.links, j, told)
     }
 }
