@@ -1,6 +1,7 @@
 // Answers of kinds and links as a pair gives them, and what is put together of them.
 ghost use Rattle.std.specs.Prelude.{◌≡◌, ◌≤◌, length};
 ghost use Rattle.frames.specs.Edits.{edit};
+ghost use Rattle.documents.specs.Faults.{kind_fault, link_fault};
 ghost use Rattle.documents.specs.Across.{change_at};
 ghost use Rattle.documents.specs.Attempts.{kind_answer};
 ghost use Rattle.pair.specs.Cells.{column_told};
@@ -14,6 +15,27 @@ use kinds::refusal::Refusal;
 use links::refusal::CarryRefusal;
 use links::rows::ColumnFault;
 
+// What a link's refusal is at a position.
+fn link_fault(position: usize, fault: ColumnFault) -> Fault
+    ensures { result ≡ link_fault position fault.column fault.refusal }
+{
+    let column = fault.column;
+    match fault.refusal {
+        CarryRefusal::NotOfKind => Fault::NotOfKind { position, column },
+        CarryRefusal::NoTranslation => Fault::NoTranslation { position, column },
+    }
+}
+
+// What a kind's refusal is at a position and a column.
+fn kind_fault(position: usize, column: u8, refusal: Refusal) -> Fault
+    ensures { result ≡ kind_fault position column refusal }
+{
+    match refusal {
+        Refusal::NotOfKind | Refusal::NoSuchKind => Fault::NotOfKind { position, column },
+        Refusal::DoesNotApply => Fault::DoesNotApply { position, column },
+    }
+}
+
 // What a row of links answers; a refusal is told at a position.
 pub(crate) fn in_column<X: Copy>(
     answer: Result<X, ColumnFault>,
@@ -21,16 +43,7 @@ pub(crate) fn in_column<X: Copy>(
 ) -> Result<X, Fault>
     ensures { result ≡ column_told position answer }
 {
-    match answer {
-        Ok(value) => Ok(value),
-        Err(fault) => {
-            let column = fault.column;
-            match fault.refusal {
-                CarryRefusal::NotOfKind => Err(Fault::NotOfKind { position, column }),
-                CarryRefusal::NoTranslation => Err(Fault::NoTranslation { position, column }),
-            }
-        }
-    }
+    answer.map_err(|fault| link_fault(position, fault))
 }
 
 // What a kind answers; a refusal is told at a position and a column.
@@ -41,14 +54,7 @@ pub(crate) fn of_kind(
 ) -> Result<u32, Fault>
     ensures { result ≡ kind_answer position column answer }
 {
-    match answer {
-        Ok(value) => Ok(value),
-        Err(refusal) => match refusal {
-            Refusal::NotOfKind => Err(Fault::NotOfKind { position, column }),
-            Refusal::DoesNotApply => Err(Fault::DoesNotApply { position, column }),
-            Refusal::NoSuchKind => Err(Fault::NotOfKind { position, column }),
-        },
-    }
+    answer.map_err(|refusal| kind_fault(position, column, refusal))
 }
 
 // A carried change, told at a position.
