@@ -1,4 +1,3 @@
 mod Kept
-mod Moving
 mod Trying
 mod Playing

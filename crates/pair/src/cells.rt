@@ -15,6 +15,30 @@ use kinds::refusal::Refusal;
 use links::refusal::CarryRefusal;
 use links::rows::ColumnFault;
 
+// A change of a cell, with the position that its refusals are told at.
+#[derive(Clone, Copy)]
+pub(crate) struct CellChange {
+    pub position: usize,
+    pub column: u8,
+    pub change: Change,
+}
+
+impl CellChange {
+    // The operation that makes the change in the record at a position.
+    pub(crate) fn operation(self, at: usize) -> Operation<'static>
+        ensures { edit result ≡ change_at at self.column self.change }
+    {
+        match self.change {
+            Change::Keep => Operation::Keep,
+            change => Operation::Change {
+                at,
+                column: self.column,
+                change,
+            },
+        }
+    }
+}
+
 // What a link's refusal is at a position.
 fn link_fault(position: usize, fault: ColumnFault) -> Fault
     ensures { result ≡ link_fault position fault.column fault.refusal }
@@ -46,25 +70,11 @@ pub(crate) fn in_column<X: Copy>(
     answer.map_err(|fault| link_fault(position, fault))
 }
 
-// What a kind answers; a refusal is told at a position and a column.
-pub(crate) fn of_kind(
-    answer: Result<u32, Refusal>,
-    position: usize,
-    column: u8,
-) -> Result<u32, Fault>
-    ensures { result ≡ kind_answer position column answer }
+// What a kind answers to a change of a cell; a refusal is told at its position and its column.
+pub(crate) fn of_kind(answer: Result<u32, Refusal>, edit: CellChange) -> Result<u32, Fault>
+    ensures { result ≡ kind_answer edit.position edit.column answer }
 {
-    answer.map_err(|refusal| kind_fault(position, column, refusal))
-}
-
-// A carried change, told at a position.
-pub(crate) fn tell(at: usize, column: u8, change: Change) -> Operation<'static>
-    ensures { edit result ≡ change_at at column change }
-{
-    match change {
-        Change::Keep => Operation::Keep,
-        change => Operation::Change { at, column, change },
-    }
+    answer.map_err(|refusal| kind_fault(edit.position, edit.column, refusal))
 }
 
 // A text of at most 24 bytes, as a remark.

@@ -7,7 +7,7 @@ ghost use Rattle.documents.specs.Attempts.{read, given, attempt};
 ghost use Rattle.pair.specs.Frames.{saying, Short};
 ghost use Rattle.pair.specs.State.{state, Plays};
 
-use crate::cells::remark;
+use crate::cells::{CellChange, remark};
 use crate::pair::Pair;
 use documents::fault::Fault;
 use frames::frame::{Frame, Operation};
@@ -38,7 +38,13 @@ impl<'a, R: Rows> Pair<'a, R> {
             Operation::Remark { at, text } => self.insert_remark(at, remark(text)),
             Operation::Delete { at } => self.delete_line(at),
             Operation::Move { from, to } => self.move_line(from, to),
-            Operation::Change { at, column, change } => self.change_line(at, column, change),
+            Operation::Change { at, column, change } => {
+                self.change_line(CellChange {
+                    position: at,
+                    column,
+                    change,
+                })
+            }
         }
     }
 
@@ -52,7 +58,13 @@ impl<'a, R: Rows> Pair<'a, R> {
             Operation::Remark { .. } => Err(Fault::NotAFrame(FrameRefusal::RemarkFromTable)),
             Operation::Delete { at } => self.delete_record(at),
             Operation::Move { from, to } => self.move_record(from, to),
-            Operation::Change { at, column, change } => self.change_record(at, column, change),
+            Operation::Change { at, column, change } => {
+                self.change_record(CellChange {
+                    position: at,
+                    column,
+                    change,
+                })
+            }
         }
     }
 

@@ -16,7 +16,7 @@ returns-then-left-eq0 g c =
     let is : is_record (item (written c.as_slice-lines.result.now) i) ≡ true = record_got _ i _ (omega arith) ∙ sym c.is_record.ensures ∙ c.if-is_record.true in
     let h : i ≡ line_of c.args.j (written c.as_slice-lines.result.now) = search (rules, line_here) in
     let r = line_of_is (written (items s.lines)) (length (items s.records)) c.args.j i s.counted (h ∙ ap (λ xs. line_of c.args.j (written xs)) c.as_slice-lines.ensures) in
-    record { value = r.value; within = r.within; number = r.number; found = r.found }
+    record { value = r.value; place = r.place; within = r.within; number = r.number; found = r.found }
 
 pub loop-i-preserved : goal.loop-i-preserved
 loop-i-preserved g c =
@@ -30,10 +30,10 @@ loop-i-preserved g c =
     ]
 
 pub returns : goal.returns
-returns g c = 
+returns g c =
     let s = c.args.self.now in
     let xs = c.as_slice-lines.result.now in
     let e : line_of c.loop-i.left _ ≡ 0 = ap (line_of c.loop-i.left) (drop_all c.loop-i.i (written xs) (omega (arith, length-map xs line))) in
     let h : length xs ≡ line_of c.args.j (written xs) = omega arith in
     let r = line_of_is (written (items s.lines)) (length (items s.records)) c.args.j (length xs) s.counted (h ∙ ap (λ xs. line_of c.args.j (written xs)) c.as_slice-lines.ensures) in
-    record { value = r.value; within = r.within; number = r.number; found = r.found }
+    record { value = r.value; place = r.place; within = r.within; number = r.number; found = r.found }

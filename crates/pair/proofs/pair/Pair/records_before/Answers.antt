@@ -8,7 +8,7 @@ use Rattle.documents.proofs.Places.{before_within}
 use Rattle.documents.proofs.Finding.{before_counted}
 use Rattle.documents.specs.declared.line.Line.{Line as StoredLine}
 use Rattle.pair.specs.Written.{written}
-use Rattle.pair.proofs.Kept.{j_below}
+use Rattle.pair.proofs.Kept.{number_below}
 use Rattle.pair.proofs.pair.Pair.records_before.Goals as goal
 
 pub returns : goal.returns
@@ -22,5 +22,5 @@ returns g c =
     record {
       value = e;
       within = omega (arith, e, before_within (written (items s.lines)) c.args.p, s.counted);
-      below = λ h. j_below (items s.lines) (items s.records) c.args.p c.count.result s.counted e h;
+      below = λ h. number_below s (record { line = c.args.p; number = c.count.result }) (record { line = h; number = e });
     }
