@@ -24,6 +24,17 @@ pub(crate) struct CellChange {
 }
 
 impl CellChange {
+    // The change of a column, told at a position.
+    pub(crate) fn new(position: usize, column: u8, change: Change) -> CellChange
+        ensures { result ≡ record { position = position; column = column; change = change } }
+    {
+        CellChange {
+            position,
+            column,
+            change,
+        }
+    }
+
     // The operation that makes the change in the record at a position.
     pub(crate) fn operation(self, at: usize) -> Operation<'static>
         ensures { edit result ≡ change_at at self.column self.change }
