@@ -32,8 +32,8 @@ pub record Ends {R : Type 0} (from to : Place) (d : State R) : Type 0 where
   pub within : to.line < length d.lines
   pub number : to.number ≡ records_before to.line (remove d.lines from.line)
 
--- whether a line may be put in at p: the position is tried first, and then the room
-abbrev pub line_fits : {R : Type 0} → ℕ → State R → Result (Unit {0}) Fault
-line_fits p d = do
-  _ ← test (nat_le p (length d.lines)) (NotInDocument p)
+-- whether a new item may be put in at a position of a document with n items: the position is tried first, and then the room
+abbrev pub may_insert : {R : Type 0} → ℕ → ℕ → State R → Result (Unit {0}) Fault
+may_insert p n d = do
+  _ ← test (nat_le p n) (NotInDocument p)
   room (insert p) d

@@ -8,9 +8,7 @@ ghost use Rattle.pair.specs.Places.{HasRecord, Stands, Opens, Ends};
 ghost use Rattle.pair.specs.State.{state};
 
 use crate::pair::Pair;
-use documents::line::Line;
 use links::rows::Rows;
-use slots::SlotList;
 
 // A record's line in the sheet, and its number in the table.
 #[derive(Clone, Copy)]

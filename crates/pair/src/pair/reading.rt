@@ -1,10 +1,11 @@
 // What a pair holds.
-ghost use Rattle.std.specs.Prelude.{◌≡◌, length};
-ghost use Rattle.kinds.specs.Answers.{need};
+ghost use Rattle.std.specs.Prelude.{◌≡◌, length, nat_lt};
+ghost use Rattle.kinds.specs.Answers.{need, test};
 ghost use Rattle.slots.specs.Slots.{items};
 ghost use Rattle.documents.specs.declared.fault.Fault.TheVariants.{NotInDocument};
 ghost use Rattle.documents.specs.Documents.{item, line};
 ghost use Rattle.pair.specs.Cells.{mapped};
+ghost use Rattle.pair.specs.Places.{may_insert};
 ghost use Rattle.pair.specs.State.{state};
 
 use crate::pair::Pair;
@@ -19,6 +20,16 @@ pub(crate) fn item_at<T: Copy>(list: &SlotList<'_, T>, at: usize, told: usize) -
 {
     list.get(at)
         .map_err(|_| Fault::NotInDocument { position: told })
+}
+
+// Refuses a position that is not in a document of so many items.
+pub(crate) fn in_document(at: usize, length: usize) -> Result<(), Fault>
+    ensures { result ≡ test (nat_lt at length) (NotInDocument at) }
+{
+    if at >= length {
+        return Err(Fault::NotInDocument { position: at });
+    }
+    Ok(())
 }
 
 impl<'a, R: Rows> Pair<'a, R> {
@@ -55,5 +66,18 @@ impl<'a, R: Rows> Pair<'a, R> {
         ensures { result ≡ need (item (state self.now).records at) (NotInDocument at) }
     {
         item_at(&self.records, at, at)
+    }
+
+    // Refuses a new item past the end of a document of so many items, and one that the sheet has no room for.
+    pub(crate) fn may_insert(&self, at: usize, length: usize) -> Result<(), Fault>
+        ensures { result ≡ may_insert at length (state self.now) }
+    {
+        if at > length {
+            return Err(Fault::NotInDocument { position: at });
+        }
+        if self.line_count() >= self.size {
+            return Err(Fault::SheetFull { position: at });
+        }
+        Ok(())
     }
 }

@@ -1,26 +1,24 @@
 // Operations from the sheet.
-ghost use Rattle.std.specs.Prelude.{◌≡◌};
 ghost use Rattle.kinds.specs.declared.side.Side.TheVariants.{Left};
 ghost use Rattle.frames.specs.Edits.{insert, remark, delete, move, change};
-ghost use Rattle.documents.specs.Attempts.{given, room};
+ghost use Rattle.documents.specs.Attempts.{given};
 ghost use Rattle.pair.specs.Written.{text};
-ghost use Rattle.pair.specs.Places.{line_fits};
 ghost use Rattle.pair.specs.State.{state, Plays};
 
 use crate::cells::CellChange;
 use crate::pair::Pair;
+use crate::pair::reading::in_document;
 use documents::fault::Fault;
 use documents::line::Remark;
 use frames::frame::Operation;
 use kinds::side::Side;
 use links::rows::Rows;
-use slots::SlotList;
 
 impl<'a, R: Rows> Pair<'a, R> {
     pub(crate) fn insert_line(&mut self, p: usize) -> Result<Operation<'static>, Fault>
         ensures { Plays (given R.Rows.columns Left (insert p) (state self.old)) self.old result self.new }
     {
-        self.room_for_line(p)?;
+        self.may_insert(p, self.line_count())?;
         let place = self.opening_at_line(p);
         self.add(place);
         Ok(Operation::Insert { at: place.number })
@@ -33,7 +31,7 @@ impl<'a, R: Rows> Pair<'a, R> {
     ) -> Result<Operation<'static>, Fault>
         ensures { Plays (given R.Rows.columns Left (remark p (text words)) (state self.old)) self.old result self.new }
     {
-        self.room_for_line(p)?;
+        self.may_insert(p, self.line_count())?;
         self.add_remark(p, words);
         Ok(Operation::Keep)
     }
@@ -41,10 +39,7 @@ impl<'a, R: Rows> Pair<'a, R> {
     pub(crate) fn delete_line(&mut self, p: usize) -> Result<Operation<'static>, Fault>
         ensures { Plays (given R.Rows.columns Left (delete p) (state self.old)) self.old result self.new }
     {
-        let n = self.line_count();
-        if p >= n {
-            return Err(Fault::NotInDocument { position: p });
-        }
+        in_document(p, self.line_count())?;
         if self.is_record(p) {
             let place = self.place_of_line(p);
             self.take_out(place);
@@ -58,13 +53,8 @@ impl<'a, R: Rows> Pair<'a, R> {
     pub(crate) fn move_line(&mut self, p: usize, q: usize) -> Result<Operation<'static>, Fault>
         ensures { Plays (given R.Rows.columns Left (move p q) (state self.old)) self.old result self.new }
     {
-        let n = self.line_count();
-        if p >= n {
-            return Err(Fault::NotInDocument { position: p });
-        }
-        if q >= n {
-            return Err(Fault::NotInDocument { position: q });
-        }
+        in_document(p, self.line_count())?;
+        in_document(q, self.line_count())?;
         if self.is_record(p) {
             let from = self.place_of_line(p);
             let to = self.end_at_line(from, q);
@@ -93,25 +83,5 @@ impl<'a, R: Rows> Pair<'a, R> {
         let y = self.retry_change(Side::Right, place.number, carried)?;
         self.put(place, x, y, link);
         Ok(carried.operation(place.number))
-    }
-
-    // Refuses a line at position `p` that is past the sheet's end, or that the sheet has no room for.
-    fn room_for_line(&self, p: usize) -> Result<(), Fault>
-        ensures { result ≡ line_fits p (state self.now) }
-    {
-        if p > self.line_count() {
-            return Err(Fault::NotInDocument { position: p });
-        }
-        self.room(p)
-    }
-
-    // Refuses one more line where the sheet has as many as it may; the refusal is told at a position.
-    pub(crate) fn room(&self, told: usize) -> Result<(), Fault>
-        ensures { result ≡ room (insert told) (state self.now) }
-    {
-        if self.line_count() >= self.size {
-            return Err(Fault::SheetFull { position: told });
-        }
-        Ok(())
     }
 }

@@ -6,21 +6,17 @@ ghost use Rattle.pair.specs.State.{state, Plays};
 
 use crate::cells::CellChange;
 use crate::pair::Pair;
+use crate::pair::reading::in_document;
 use documents::fault::Fault;
 use frames::frame::Operation;
 use kinds::side::Side;
 use links::rows::Rows;
-use slots::SlotList;
 
 impl<'a, R: Rows> Pair<'a, R> {
     pub(crate) fn insert_record(&mut self, j: usize) -> Result<Operation<'static>, Fault>
         ensures { Plays (given R.Rows.columns Right (insert j) (state self.old)) self.old result self.new }
     {
-        let m = self.record_count();
-        if j > m {
-            return Err(Fault::NotInDocument { position: j });
-        }
-        self.room(j)?;
+        self.may_insert(j, self.record_count())?;
         let place = self.opening_at_record(j);
         self.add(place);
         Ok(Operation::Insert { at: place.line })
@@ -29,10 +25,7 @@ impl<'a, R: Rows> Pair<'a, R> {
     pub(crate) fn delete_record(&mut self, j: usize) -> Result<Operation<'static>, Fault>
         ensures { Plays (given R.Rows.columns Right (delete j) (state self.old)) self.old result self.new }
     {
-        let m = self.record_count();
-        if j >= m {
-            return Err(Fault::NotInDocument { position: j });
-        }
+        in_document(j, self.record_count())?;
         let place = self.place_of_record(j);
         self.take_out(place);
         Ok(Operation::Delete { at: place.line })
@@ -41,13 +34,8 @@ impl<'a, R: Rows> Pair<'a, R> {
     pub(crate) fn move_record(&mut self, j: usize, k: usize) -> Result<Operation<'static>, Fault>
         ensures { Plays (given R.Rows.columns Right (move j k) (state self.old)) self.old result self.new }
     {
-        let m = self.record_count();
-        if j >= m {
-            return Err(Fault::NotInDocument { position: j });
-        }
-        if k >= m {
-            return Err(Fault::NotInDocument { position: k });
-        }
+        in_document(j, self.record_count())?;
+        in_document(k, self.record_count())?;
         if j == k {
             return Ok(Operation::Keep);
         }

@@ -11,7 +11,6 @@ use crate::pair::Pair;
 use crate::pair::places::Place;
 use documents::line::{Line, Remark};
 use links::rows::Rows;
-use slots::SlotList;
 
 impl<'a, R: Rows> Pair<'a, R> {
     // Adds a record of zeros at a place.
@@ -22,8 +21,7 @@ impl<'a, R: Rows> Pair<'a, R> {
     {
         let zeros = [0u32; 4];
         let blank = self.blank;
-        let line = Line::Record(zeros);
-        let _ = self.lines.insert(at.line, line);
+        let _ = self.lines.insert(at.line, Line::Record(zeros));
         let _ = self.records.insert(at.number, zeros);
         let _ = self.links.insert(at.number, blank);
     }
@@ -34,8 +32,7 @@ impl<'a, R: Rows> Pair<'a, R> {
         requires room { length (state self.old).lines < self.old.size }
         ensures { state self.new ≡ with_remark p (text remark) (state self.old) }
     {
-        let line = Line::Remark(remark);
-        let _ = self.lines.insert(p, line);
+        let _ = self.lines.insert(p, Line::Remark(remark));
     }
 
     // Puts other rows and another link in the place of those of the record at a place.
@@ -43,8 +40,7 @@ impl<'a, R: Rows> Pair<'a, R> {
         requires { Stands at (state self.old) }
         ensures { state self.new ≡ with_rows at x y link (state self.old) }
     {
-        let line = Line::Record(x);
-        let _ = self.lines.set(at.line, line);
+        let _ = self.lines.set(at.line, Line::Record(x));
         let _ = self.records.set(at.number, y);
         let _ = self.links.set(at.number, link);
     }
