@@ -19,7 +19,7 @@ use Rattle.pair.specs.declared.pair.Pair.{Pair}
 use Rattle.pair.specs.declared.pair.places.Place.{Place}
 use Rattle.pair.specs.Written.{text, written}
 use Rattle.pair.specs.State.{state}
-use Rattle.pair.specs.Places.{Stands, Opens, Ends}
+use Rattle.pair.specs.Places.{StandsAt, OpensAt, EndsAt}
 use Rattle.pair.specs.Edits.{with_record, with_remark, with_rows, without_record, without_remark, moved_record, moved_remark}
 
 -- a list that holds these items, with as much room as before
@@ -61,7 +61,7 @@ pub record Edited {R : Type 0} (s : Pair R) (ls : SlotList StoredLine) (rs : Slo
   pub state_is : ◌≡◌ {A = State R} (record { size = s.size; blank = s.blank; lines = written (items ls); records = items rs; links = items ks }) d
 
 -- a record that stands in the pair is in each of its lists
-module _ {R : Type 0} (s : Pair R) (at : Place) (st : Stands at (state s)) where
+module _ {R : Type 0} (s : Pair R) (at : Place) (st : StandsAt at (state s)) where
   line_below : at.line < length (items s.lines)
   line_below = let x = told_record (state s).lines at.line st.line in omega (arith, item_below (state s).lines at.line (record_line x.0) x.1, length-map (items s.lines) line)
 
@@ -85,7 +85,7 @@ module _ {R : Type 0} (s : Pair R) (ls : SlotList StoredLine) (rs : SlotList (Li
         state_is = same_state _ _ refl refl at hr.items_are hk.items_are;
       }
 
-  pub added : {U V W : Type 0} (at : Place) (a : Result U Refusal) (b : Result V Refusal) (c : Result W Refusal) → Opens at (state s) → length (state s).lines < s.size →
+  pub added : {U V W : Type 0} (at : Place) (a : Result U Refusal) (b : Result V Refusal) (c : Result W Refusal) → OpensAt at (state s) → length (state s).lines < s.size →
       Inserts s.lines at.line (Record zeros) a ls → Inserts s.records at.number zeros b rs → Inserts s.links at.number s.blank c ks → Edited s ls rs ks (with_record at (state s))
   added at a b c o lt f g h =
       let xs = items s.lines in
@@ -101,7 +101,7 @@ module _ {R : Type 0} (s : Pair R) (ls : SlotList StoredLine) (rs : SlotList (Li
       (ap length (records_inserted (written xs) at.line zeros) ∙ long ∙ ap (λ n. n + 1) s.counted ∙ sym (length-insert (items s.records) at.number zeros le))
       (length-insert (items s.links) at.number s.blank (omega (arith, s.linked)) ∙ ap (λ n. n + 1) s.linked ∙ sym (length-insert (items s.records) at.number zeros le))
 
-  module _ (at : Place) (st : Stands at (state s)) where
+  module _ (at : Place) (st : StandsAt at (state s)) where
     pub put_in_place : {U V W : Type 0} (x y : List ℕ) (z : R) (a : Result U Refusal) (b : Result V Refusal) (c : Result W Refusal) →
         Sets s.lines at.line (Record x) a ls → Sets s.records at.number y b rs → Sets s.links at.number z c ks → Edited s ls rs ks (with_rows at x y z (state s))
     put_in_place x y z a b c f g h =
@@ -126,7 +126,7 @@ module _ {R : Type 0} (s : Pair R) (ls : SlotList StoredLine) (rs : SlotList (Li
         (removes_hold s.lines ls at.line u (line_below s at st) f) (removes_hold s.records rs at.number v (number_below s at st) g) (removes_hold s.links ks at.number w (link_below s at st) h)
         (sheet_removed xs at.line) (omega (arith, s.counted)) (omega (arith, s.linked))
 
-    pub shifted : {U V W : Type 0} (to : Place) (u : Result U Refusal) (v : Result V Refusal) (w : Result W Refusal) → Ends at to (state s) →
+    pub shifted : {U V W : Type 0} (to : Place) (u : Result U Refusal) (v : Result V Refusal) (w : Result W Refusal) → EndsAt at to (state s) →
         Moves s.lines at.line to.line u ls → Moves s.records at.number to.number v rs → Moves s.links at.number to.number w ks → Edited s ls rs ks (moved_record at to (state s))
     shifted to u v w en f g h =
         let xs = items s.lines in

@@ -18,17 +18,17 @@ HasRecord Left p d = is_record (item d.lines p) ≡ true
 HasRecord Right j d = j < length d.records
 
 -- a record stands at the place
-pub record Stands {R : Type 0} (at : Place) (d : State R) : Type 0 where
+pub record StandsAt {R : Type 0} (at : Place) (d : State R) : Type 0 where
   pub line : is_record (item d.lines at.line) ≡ true
   pub number : at.number ≡ records_before at.line d.lines
 
 -- a new record may be put in at the place
-pub record Opens {R : Type 0} (at : Place) (d : State R) : Type 0 where
+pub record OpensAt {R : Type 0} (at : Place) (d : State R) : Type 0 where
   pub within : at.line ≤ length d.lines
   pub number : at.number ≡ records_before at.line d.lines
 
 -- the record at one place may be moved so that it ends at the other
-pub record Ends {R : Type 0} (from to : Place) (d : State R) : Type 0 where
+pub record EndsAt {R : Type 0} (from to : Place) (d : State R) : Type 0 where
   pub within : to.line < length d.lines
   pub number : to.number ≡ records_before to.line (remove d.lines from.line)
 

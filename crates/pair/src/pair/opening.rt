@@ -14,7 +14,7 @@ use slots::SlotList;
 const MOST_LINES: usize = 256;
 
 impl<'a, R: Rows> Pair<'a, R> {
-    // Opens a pair over lent slots, both documents empty. It holds as many lines as the shortest of the three has slots, and
+    // OpensAt a pair over lent slots, both documents empty. It holds as many lines as the shortest of the three has slots, and
     // at most 256.
     pub fn open(
         lines: &'a mut [Line],

@@ -4,7 +4,7 @@ ghost use Rattle.std.specs.List.{remove};
 ghost use Rattle.kinds.specs.declared.side.Side.TheVariants.{Left, Right};
 ghost use Rattle.documents.specs.Documents.{item, records_before, line_of, place_for};
 ghost use Rattle.documents.specs.Across.{is_record};
-ghost use Rattle.pair.specs.Places.{HasRecord, Stands, Opens, Ends};
+ghost use Rattle.pair.specs.Places.{HasRecord, StandsAt, OpensAt, EndsAt};
 ghost use Rattle.pair.specs.State.{state};
 
 use crate::pair::Pair;
@@ -28,7 +28,7 @@ impl<'a, R: Rows> Pair<'a, R> {
     // The place of the record that is line `p`.
     pub(crate) fn place_of_line(&self, p: usize) -> Place
         requires { HasRecord Left p (state self.now) }
-        ensures stands { Stands result (state self.now) }
+        ensures stands { StandsAt result (state self.now) }
         ensures line { result.line ≡ p }
         ensures below { HasRecord Right result.number (state self.now) }
     {
@@ -41,7 +41,7 @@ impl<'a, R: Rows> Pair<'a, R> {
     // The place of record `j`.
     pub(crate) fn place_of_record(&self, j: usize) -> Place
         requires { HasRecord Right j (state self.now) }
-        ensures stands { Stands result (state self.now) }
+        ensures stands { StandsAt result (state self.now) }
         ensures line { result.line ≡ line_of j (state self.now).lines }
         ensures number { result.number ≡ j }
     {
@@ -54,7 +54,7 @@ impl<'a, R: Rows> Pair<'a, R> {
     // The place of a new record that is put in as line `p`.
     pub(crate) fn opening_at_line(&self, p: usize) -> Place
         requires { p ≤ length (state self.now).lines }
-        ensures opens { Opens result (state self.now) }
+        ensures opens { OpensAt result (state self.now) }
         ensures line { result.line ≡ p }
         ensures number { result.number ≡ records_before p (state self.now).lines }
         ensures within { result.number ≤ length (state self.now).records }
@@ -68,7 +68,7 @@ impl<'a, R: Rows> Pair<'a, R> {
     // The place of a new record that is put in as record `j`.
     pub(crate) fn opening_at_record(&self, j: usize) -> Place
         requires { j ≤ length (state self.now).records }
-        ensures opens { Opens result (state self.now) }
+        ensures opens { OpensAt result (state self.now) }
         ensures line { result.line ≡ place_for j (state self.now).lines }
         ensures number { result.number ≡ j }
     {
@@ -80,9 +80,9 @@ impl<'a, R: Rows> Pair<'a, R> {
 
     // Where the record at a place ends that is moved to line `q`.
     pub(crate) fn end_at_line(&self, from: Place, q: usize) -> Place
-        requires stands { Stands from (state self.now) }
+        requires stands { StandsAt from (state self.now) }
         requires target { q < length (state self.now).lines }
-        ensures ends { Ends from result (state self.now) }
+        ensures ends { EndsAt from result (state self.now) }
         ensures line { result.line ≡ q }
         ensures below { result.number < length (state self.now).records }
     {
@@ -97,9 +97,9 @@ impl<'a, R: Rows> Pair<'a, R> {
 
     // Where the record at a place ends that is moved to be record `k`.
     pub(crate) fn end_at_record(&self, from: Place, k: usize) -> Place
-        requires stands { Stands from (state self.now) }
+        requires stands { StandsAt from (state self.now) }
         requires target { k < length (state self.now).records }
-        ensures ends { Ends from result (state self.now) }
+        ensures ends { EndsAt from result (state self.now) }
         ensures line { result.line ≡ place_for k (remove (state self.now).lines from.line) }
         ensures number { result.number ≡ k }
     {

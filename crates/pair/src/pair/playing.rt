@@ -1,5 +1,4 @@
 // Playing a frame.
-ghost use Rattle.std.specs.Prelude.{◌≡◌};
 ghost use Rattle.kinds.specs.declared.side.Side.TheVariants.{Left, Right};
 ghost use Rattle.frames.specs.Edits.{edit};
 ghost use Rattle.documents.specs.Attempts.{given, attempt};

@@ -4,7 +4,7 @@ ghost use Rattle.documents.specs.Documents.{item};
 ghost use Rattle.documents.specs.Across.{is_record};
 ghost use Rattle.pair.specs.Written.{text};
 ghost use Rattle.pair.specs.Edits.{with_record, with_remark, with_rows, without_record, without_remark, moved_record, moved_remark};
-ghost use Rattle.pair.specs.Places.{Stands, Opens, Ends};
+ghost use Rattle.pair.specs.Places.{StandsAt, OpensAt, EndsAt};
 ghost use Rattle.pair.specs.State.{state};
 
 use crate::pair::Pair;
@@ -15,7 +15,7 @@ use links::rows::Rows;
 impl<'a, R: Rows> Pair<'a, R> {
     // Adds a record of zeros at a place.
     pub(crate) fn add(&mut self, at: Place)
-        requires place { Opens at (state self.old) }
+        requires place { OpensAt at (state self.old) }
         requires room { length (state self.old).lines < self.old.size }
         ensures { state self.new ≡ with_record at (state self.old) }
     {
@@ -37,7 +37,7 @@ impl<'a, R: Rows> Pair<'a, R> {
 
     // Puts other rows and another link in the place of those of the record at a place.
     pub(crate) fn put(&mut self, at: Place, x: [u32; 4], y: [u32; 4], link: R)
-        requires { Stands at (state self.old) }
+        requires { StandsAt at (state self.old) }
         ensures { state self.new ≡ with_rows at x y link (state self.old) }
     {
         let _ = self.lines.set(at.line, Line::Record(x));
@@ -47,7 +47,7 @@ impl<'a, R: Rows> Pair<'a, R> {
 
     // Takes out the record at a place.
     pub(crate) fn take_out(&mut self, at: Place)
-        requires { Stands at (state self.old) }
+        requires { StandsAt at (state self.old) }
         ensures { state self.new ≡ without_record at (state self.old) }
     {
         let _ = self.lines.remove(at.line);
@@ -66,8 +66,8 @@ impl<'a, R: Rows> Pair<'a, R> {
 
     // Moves the record at one place so that it ends at another.
     pub(crate) fn shift(&mut self, from: Place, to: Place)
-        requires from { Stands from (state self.old) }
-        requires to { Ends from to (state self.old) }
+        requires from { StandsAt from (state self.old) }
+        requires to { EndsAt from to (state self.old) }
         ensures { state self.new ≡ moved_record from to (state self.old) }
     {
         let _ = self.lines.move_item(from.line, to.line);
