@@ -25,39 +25,14 @@ impl<'a, R: Rows> Pair<'a, R> {
         matches!(self.lines.get(p), Ok(line) if line.is_record())
     }
 
-    // The place of the record that is line `p`.
+    // Line `p`, and the number of the record that is there or is put in there.
     pub(crate) fn place_of_line(&self, p: usize) -> Place
-        requires { HasRecord Left p (state self.now) }
-        ensures stands { StandsAt result (state self.now) }
-        ensures line { result.line ≡ p }
-        ensures below { HasRecord Right result.number (state self.now) }
-    {
-        Place {
-            line: p,
-            number: self.records_before(p),
-        }
-    }
-
-    // The place of record `j`.
-    pub(crate) fn place_of_record(&self, j: usize) -> Place
-        requires { HasRecord Right j (state self.now) }
-        ensures stands { StandsAt result (state self.now) }
-        ensures line { result.line ≡ line_of j (state self.now).lines }
-        ensures number { result.number ≡ j }
-    {
-        Place {
-            line: self.line_of(j),
-            number: j,
-        }
-    }
-
-    // The place of a new record that is put in as line `p`.
-    pub(crate) fn opening_at_line(&self, p: usize) -> Place
-        requires { p ≤ length (state self.now).lines }
-        ensures opens { OpensAt result (state self.now) }
         ensures line { result.line ≡ p }
         ensures number { result.number ≡ records_before p (state self.now).lines }
         ensures within { result.number ≤ length (state self.now).records }
+        ensures stands { HasRecord Left p (state self.now) → StandsAt result (state self.now) }
+        ensures below { HasRecord Left p (state self.now) → HasRecord Right result.number (state self.now) }
+        ensures opens { p ≤ length (state self.now).lines → OpensAt result (state self.now) }
     {
         Place {
             line: p,
@@ -65,12 +40,13 @@ impl<'a, R: Rows> Pair<'a, R> {
         }
     }
 
-    // The place of a new record that is put in as record `j`.
-    pub(crate) fn opening_at_record(&self, j: usize) -> Place
-        requires { j ≤ length (state self.now).records }
-        ensures opens { OpensAt result (state self.now) }
-        ensures line { result.line ≡ place_for j (state self.now).lines }
+    // Record `j`, and the line that it is or is put in as.
+    pub(crate) fn place_of_record(&self, j: usize) -> Place
+        ensures line { result.line ≡ line_of j (state self.now).lines }
+        ensures place { result.line ≡ place_for j (state self.now).lines }
         ensures number { result.number ≡ j }
+        ensures stands { HasRecord Right j (state self.now) → StandsAt result (state self.now) }
+        ensures opens { j ≤ length (state self.now).records → OpensAt result (state self.now) }
     {
         Place {
             line: self.line_of(j),

@@ -19,7 +19,7 @@ impl<'a, R: Rows> Pair<'a, R> {
         ensures { Plays (given R.Rows.columns Left (insert p) (state self.old)) self.old result self.new }
     {
         self.may_insert(p, self.line_count())?;
-        let place = self.opening_at_line(p);
+        let place = self.place_of_line(p);
         self.add(place);
         Ok(Operation::Insert { at: place.number })
     }

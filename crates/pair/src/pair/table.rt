@@ -17,7 +17,7 @@ impl<'a, R: Rows> Pair<'a, R> {
         ensures { Plays (given R.Rows.columns Right (insert j) (state self.old)) self.old result self.new }
     {
         self.may_insert(j, self.record_count())?;
-        let place = self.opening_at_record(j);
+        let place = self.place_of_record(j);
         self.add(place);
         Ok(Operation::Insert { at: place.line })
     }
