@@ -15,6 +15,7 @@ use kinds::side::Side;
 use links::rows::Rows;
 
 impl<'a, R: Rows> Pair<'a, R> {
+    // Inserts a record as line `p`.
     pub(crate) fn insert_line(&mut self, p: usize) -> Result<Operation<'static>, Fault>
         ensures { Plays (given R.Rows.columns Left (insert p) (state self.old)) self.old result self.new }
     {
@@ -24,6 +25,7 @@ impl<'a, R: Rows> Pair<'a, R> {
         Ok(Operation::Insert { at: place.number })
     }
 
+    // Inserts a remark as line `p`.
     pub(crate) fn insert_remark(
         &mut self,
         p: usize,
@@ -36,6 +38,7 @@ impl<'a, R: Rows> Pair<'a, R> {
         Ok(Operation::Keep)
     }
 
+    // Deletes line `p`.
     pub(crate) fn delete_line(&mut self, p: usize) -> Result<Operation<'static>, Fault>
         ensures { Plays (given R.Rows.columns Left (delete p) (state self.old)) self.old result self.new }
     {
@@ -50,6 +53,7 @@ impl<'a, R: Rows> Pair<'a, R> {
         }
     }
 
+    // Moves line `p` so that it ends as line `q`.
     pub(crate) fn move_line(&mut self, p: usize, q: usize) -> Result<Operation<'static>, Fault>
         ensures { Plays (given R.Rows.columns Left (move p q) (state self.old)) self.old result self.new }
     {
@@ -73,6 +77,7 @@ impl<'a, R: Rows> Pair<'a, R> {
         }
     }
 
+    // Changes a cell of a record line.
     pub(crate) fn change_line(&mut self, edit: CellChange) -> Result<Operation<'static>, Fault>
         ensures { Plays (given R.Rows.columns Left (change edit.position edit.column edit.change) (state self.old)) self.old result self.new }
     {

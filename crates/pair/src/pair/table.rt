@@ -13,6 +13,7 @@ use kinds::side::Side;
 use links::rows::Rows;
 
 impl<'a, R: Rows> Pair<'a, R> {
+    // Inserts a record as record `j`.
     pub(crate) fn insert_record(&mut self, j: usize) -> Result<Operation<'static>, Fault>
         ensures { Plays (given R.Rows.columns Right (insert j) (state self.old)) self.old result self.new }
     {
@@ -22,6 +23,7 @@ impl<'a, R: Rows> Pair<'a, R> {
         Ok(Operation::Insert { at: place.line })
     }
 
+    // Deletes record `j`.
     pub(crate) fn delete_record(&mut self, j: usize) -> Result<Operation<'static>, Fault>
         ensures { Plays (given R.Rows.columns Right (delete j) (state self.old)) self.old result self.new }
     {
@@ -31,6 +33,7 @@ impl<'a, R: Rows> Pair<'a, R> {
         Ok(Operation::Delete { at: place.line })
     }
 
+    // Moves record `j` so that it ends as record `k`.
     pub(crate) fn move_record(&mut self, j: usize, k: usize) -> Result<Operation<'static>, Fault>
         ensures { Plays (given R.Rows.columns Right (move j k) (state self.old)) self.old result self.new }
     {
@@ -48,6 +51,7 @@ impl<'a, R: Rows> Pair<'a, R> {
         })
     }
 
+    // Changes a cell of a record.
     pub(crate) fn change_record(&mut self, edit: CellChange) -> Result<Operation<'static>, Fault>
         ensures { Plays (given R.Rows.columns Right (change edit.position edit.column edit.change) (state self.old)) self.old result self.new }
     {
