@@ -95,7 +95,7 @@ pub(crate) fn remark(words: &[u8]) -> Remark
 {
     let len = words.len();
     let mut bytes = [0u8; 24];
-    bytes[0..len].copy_from_slice(words);
+    bytes[..len].copy_from_slice(words);
     Remark {
         len: len as u8,
         bytes,

@@ -14,7 +14,7 @@ use slots::SlotList;
 const MOST_LINES: usize = 256;
 
 impl<'a, R: Rows> Pair<'a, R> {
-    // OpensAt a pair over lent slots, both documents empty. It holds as many lines as the shortest of the three has slots, and
+    // Opens a pair over lent slots, both documents empty. It holds as many lines as the shortest of the three has slots, and
     // at most 256.
     pub fn open(
         lines: &'a mut [Line],
@@ -26,9 +26,11 @@ impl<'a, R: Rows> Pair<'a, R> {
         ensures reset { table result.links ≡ replicate (length links.old) (R.Rows.columns.fresh pattern) }
         ensures promise { Keeps R.Rows.columns (least lines.old records.old links.old) pattern }
     {
-        let size = MOST_LINES.min(lines.len().min(records.len().min(links.len())));
+        let slots = lines.len().min(records.len()).min(links.len());
+        let size = slots.min(MOST_LINES);
         let mut blank = pattern;
         blank.reset();
+        // Not `fill`, which clones: nothing says that a row's clone is the row.
         links.fill_with(|| blank);
         Pair {
             size,

@@ -65,6 +65,7 @@ impl<'a, R: Rows> Pair<'a, R> {
         let number = if q <= from.line {
             self.records_before(q)
         } else {
+            // The count shows that the sum fits, and is never the lesser.
             let n = self.line_count();
             self.records_before((q + 1).min(n)) - 1
         };
@@ -82,6 +83,7 @@ impl<'a, R: Rows> Pair<'a, R> {
         let line = if k < from.number {
             self.line_of(k)
         } else {
+            // The count shows that the sum fits, and is never the lesser.
             let m = self.record_count();
             self.line_of((k + 1).min(m)) - 1
         };
