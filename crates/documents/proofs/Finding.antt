@@ -1,6 +1,5 @@
 -- What reads of the lines tell of the sheet, one line after the other, and once a record is taken out.
-use Rattle.std.proofs.Common.{◌≡◌, ℕ, zero, suc, ◌+◌, ◌-◌, ◌<◌, ◌≤◌, true, false, ltb, List, [], ◌∷◌, map, length, get_or, filter, take, drop, set, Some, None, sym, refl, ap, ◌∙◌, ⊎_elim, add-one, sub-one, arith}
-use lib.ListN.{length-map}
+use Rattle.std.proofs.Common.{◌≡◌, ℕ, zero, suc, ◌+◌, ◌-◌, ◌<◌, ◌≤◌, true, false, ltb, List, [], ◌∷◌, map, length, get_or, filter, take, drop, set, Some, sym, refl, ap, ◌∙◌, ⊎_elim, add-one, sub-one, arith}
 use Rattle.std.specs.List.{insert, remove}
 use Rattle.std.proofs.lemmas.List.{take-map, drop-map, map-append, map-set}
 use Rattle.std.proofs.lemmas.List.Edits.{length-remove}
@@ -17,16 +16,6 @@ clash h = absurd (omega arith)
 
 -- ---- items
 
-pub got : {X : Type 0} (xs : List X) (i : ℕ) (x : X) → i < length xs → x ≡ get_or xs i x → item xs i ≡ Some x
-got [] i x lt e = absurd (omega arith)
-got (y ∷ xs) zero x lt e = ap Some (sym e)
-got (y ∷ xs) (suc i) x lt e = got xs i x (omega arith) e
-
-pub not_got : {X : Type 0} (xs : List X) (i : ℕ) → length xs ≤ i → item xs i ≡ None
-not_got [] i le = refl
-not_got (y ∷ xs) zero le = absurd (omega arith)
-not_got (y ∷ xs) (suc i) le = not_got xs i (omega arith)
-
 pub item_map : {X Y : Type 0} (f : X → Y) (xs : List X) (i : ℕ) (x : X) → item xs i ≡ Some x → item (map f xs) i ≡ Some (f x)
 item_map f [] i x e = clash (cc e)
 item_map f (y ∷ xs) zero x e = let z : y ≡ x = cc e in ap (λ w. Some (f w)) z
@@ -37,13 +26,7 @@ moved_here xs j lt = let x = item_there xs j lt in moved_nowhere xs j x.0 x.1
 
 -- ---- the sheet that stored lines stand for
 
--- a stored line that was read is that line of the sheet
-pub line_got : (xs : List StoredLine) (i : ℕ) (x : StoredLine) → i < length xs → x ≡ get_or xs i x → item (sheet xs) i ≡ Some (line x)
-line_got xs i x lt e = item_map line xs i x (got xs i x lt e)
-
-pub no_line : (xs : List StoredLine) (i : ℕ) → length xs ≤ i → item (sheet xs) i ≡ None
-no_line xs i le = not_got (sheet xs) i (omega (arith, length-map xs line))
-
+-- a stored line is a record where that line of the sheet is
 pub record_got : (xs : List StoredLine) (i : ℕ) (d : StoredLine) → i < length xs → is_record (item (sheet xs) i) ≡ is_record (Some (line (get_or xs i d)))
 record_got [] i d lt = absurd (omega arith)
 record_got (x ∷ xs) zero d lt = refl
