@@ -1,5 +1,6 @@
 // Why a pair refuses a frame, and where.
 ghost use Rattle.std.specs.Prelude.{◌≡◌};
+ghost use Rattle.documents.specs.declared.fault.Fault.TheVariants.{NotAFrame};
 ghost use Rattle.documents.specs.Faults.{fault_number, fault_position, fault_column};
 
 use frames::refusal::FrameRefusal;
@@ -21,6 +22,15 @@ pub enum Fault {
     DoesNotApply { position: usize, column: u8 },
     // The link has no translation for the change.
     NoTranslation { position: usize, column: u8 },
+}
+
+// Bytes that are not a frame are refused by what their reading says.
+impl From<FrameRefusal> for Fault {
+    ghost from_gives = { λ refusal fault. fault ≡ NotAFrame refusal };
+
+    fn from(refusal: FrameRefusal) -> Fault {
+        Fault::NotAFrame(refusal)
+    }
 }
 
 impl Fault {

@@ -1,28 +1,33 @@
--- What an edit of the three lists keeps, and what it makes of the sheet.
-use Rattle.std.proofs.Common.{◌≡◌, ℕ, zero, suc, ◌+◌, ◌<◌, ◌≤◌, true, false, List, [], ◌∷◌, length, take, drop, set, Some as some, Result, sym, refl, ap, ◌∙◌, arith, length-set}
+-- What an edit of the three lists keeps, and the state that it makes.
+use Rattle.std.proofs.Common.{◌≡◌, ℕ, ◌+◌, ◌<◌, ◌≤◌, false, List, length, set, Result, sym, refl, ap, ◌∙◌, arith, length-set}
 use lib.ListN.{length-map}
 use Rattle.std.specs.List.{insert, remove}
-use Rattle.std.proofs.lemmas.List.{take-map, drop-map, map-append, map-set}
 use Rattle.std.proofs.lemmas.List.Edits.{length-insert, length-remove}
 use Rattle.slots.specs.declared.list.SlotList.{SlotList}
 use Rattle.slots.specs.declared.refusal.Refusal.{Refusal}
-use Rattle.slots.proofs.Slots.{sets_surely, inserts_surely, removes_surely}
-use Rattle.slots.specs.Slots.{items, room, Edited as ListEdited, Inserts, Sets, Removes}
-use Rattle.documents.specs.Documents.{Line, line, record_line, remark_line, item, records_of, records_before}
-use Rattle.documents.specs.Across.{is_record}
-use Rattle.documents.proofs.Places.{before_within, records_inserted, remark_inserted, records_removed, remark_removed, record_below, record_set, item_below}
+use Rattle.slots.specs.Slots.{items, room, Edited as ListEdited, Inserts, Sets, Removes, Moves}
+use Rattle.slots.proofs.Slots.{sets_surely, inserts_surely, removes_surely, moves_surely, moved_is as slots_moved_is}
 use Rattle.documents.specs.declared.line.Line.{Line as StoredLine}
 use Rattle.documents.specs.declared.line.Remark.{Remark as Noted}
 use Rattle.documents.specs.declared.line.Line.TheVariants.{Record, Remark}
+use Rattle.documents.specs.Documents.{Line, line, record_line, zeros, item, moved, records_of, records_before}
+use Rattle.documents.specs.Across.{is_record}
+use Rattle.documents.specs.Attempts.{State, holding}
+use Rattle.documents.proofs.Places.{item_there, item_below, item_get_or, moved_is, length_moved, before_within, records_within, records_inserted, remark_inserted, records_removed, remark_removed, record_below, record_set, records_moved, remark_moved}
+use Rattle.documents.proofs.Finding.{sheet_inserted, sheet_set, sheet_removed, sheet_moved, told_record, told_remark, before_removed_below, same_state}
 use Rattle.pair.specs.declared.pair.Pair.{Pair}
+use Rattle.pair.specs.declared.pair.places.Place.{Place}
 use Rattle.pair.specs.Written.{text, written}
+use Rattle.pair.specs.State.{state}
+use Rattle.pair.specs.Places.{StandsAt, OpensAt, EndsAt}
+use Rattle.pair.specs.Edits.{with_record, with_remark, with_rows, without_record, without_remark, moved_record, moved_remark}
 
 -- a list that holds these items, with as much room as before
-pub record Holds {X : Type 0} (s t : SlotList X) (xs : List X) : Type 0 where
-  pub items_are : items t ≡ xs
-  pub same_room : room t ≡ room s
+record Holds {X : Type 0} (s t : SlotList X) (xs : List X) : Type 0 where
+  items_are : items t ≡ xs
+  same_room : room t ≡ room s
 
-pub holds : {X : Type 0} (s t : SlotList X) (xs source : List X) → ListEdited s xs source t → Holds s t xs
+holds : {X : Type 0} (s t : SlotList X) (xs source : List X) → ListEdited s xs source t → Holds s t xs
 holds s t xs source e = record { items_are = e.items_are; same_room = e.same_room }
 
 inserts_hold : {X U : Type 0} (s t : SlotList X) (at : ℕ) (x : X) (r : Result U Refusal) → at ≤ length (items s) → length (items s) < room s → Inserts s at x r t → Holds s t (insert (items s) at x)
@@ -34,155 +39,135 @@ sets_hold s t at x r lt h = holds s t _ _ (sets_surely s t at x r lt h)
 removes_hold : {X : Type 0} (s t : SlotList X) (at : ℕ) (r : Result X Refusal) → at < length (items s) → Removes s at r t → Holds s t (remove (items s) at)
 removes_hold s t at r lt h = holds s t _ _ (removes_surely s t at r lt h)
 
-pub held : {X : Type 0} (s : SlotList X) → Holds s s (items s)
+moves_hold : {X U : Type 0} (s t : SlotList X) (p q : ℕ) (r : Result U Refusal) → p < length (items s) → q < length (items s) → Moves s p q r t → Holds s t (moved (items s) p q)
+moves_hold s t p q r lp lq h =
+    let x = item_there (items s) p lp in
+    let k = moves_surely s t p q r lp lq h in
+    record {
+      items_are = k.items_are ∙ slots_moved_is (items s) p q x.0 lp ∙ ap (λ y. insert (remove (items s) p) q y) (item_get_or (items s) p x.0 x.0 x.1) ∙ sym (moved_is (items s) p q x.0 x.1);
+      same_room = k.same_room;
+    }
+
+held : {X : Type 0} (s : SlotList X) → Holds s s (items s)
 held s = record { items_are = refl; same_room = refl }
 
-pub written_inserted : (xs : List StoredLine) (p : ℕ) (x : StoredLine) → written (insert xs p x) ≡ insert (written xs) p (line x)
-written_inserted xs p x = map-append line (take p xs) (x ∷ drop p xs) ∙ sym (simp (take-map, drop-map))
+-- The pair s with other lists: what it keeps, and the state that it is then in.
+pub record Edited {R : Type 0} (s : Pair R) (ls : SlotList StoredLine) (rs : SlotList (List ℕ)) (ks : SlotList R) (d : State R) : Type 0 where
+  pub kept : record {
+    counted : length (records_of (written (items ls))) ≡ length (items rs);
+    linked : length (items ks) ≡ length (items rs);
+    roomy : (s.size ≤ room ls) × (s.size ≤ room rs) × (s.size ≤ room ks);
+  }
+  pub state_is : ◌≡◌ {A = State R} (record { size = s.size; blank = s.blank; lines = written (items ls); records = items rs; links = items ks }) d
 
-pub written_set : (xs : List StoredLine) (p : ℕ) (x : StoredLine) → written (set xs p x) ≡ set (written xs) p (line x)
-written_set xs p x = map-set line xs p x
+-- a record that stands in the pair is in each of its lists
+module _ {R : Type 0} (s : Pair R) (at : Place) (st : StandsAt at (state s)) where
+  line_below : at.line < length (items s.lines)
+  line_below = let x = told_record (state s).lines at.line st.line in omega (arith, item_below (state s).lines at.line (record_line x.0) x.1, length-map (items s.lines) line)
 
-pub written_removed : (xs : List StoredLine) (p : ℕ) → written (remove xs p) ≡ remove (written xs) p
-written_removed xs p = map-append line (take p xs) (drop (suc p) xs) ∙ sym (simp (take-map, drop-map))
+  pub number_below : at.number < length (items s.records)
+  number_below = let x = told_record (state s).lines at.line st.line in omega (arith, record_below (state s).lines at.line x.0 x.1, st.number, s.counted)
 
-pub told_remark : (ls : List Line) (p : ℕ) → p < length ls → is_record (item ls p) ≡ false → (t : List ℕ) × (item ls p ≡ some (remark_line t))
-told_remark [] p lt h = absurd (omega arith)
-told_remark (record_line x ∷ ls) zero lt h = let z : ◌≡◌ {A = ℕ} 0 1 = cc in absurd (omega arith)
-told_remark (remark_line t ∷ ls) zero lt h = (t, refl)
-told_remark (l ∷ ls) (suc p) lt h = told_remark ls p (omega arith) h
-
-pub counted_dropped : (xs : List StoredLine) (p : ℕ) → p < length xs → is_record (item (written xs) p) ≡ false → length (records_of (written (remove xs p))) ≡ length (records_of (written xs))
-counted_dropped xs p lt h =
-    let t = told_remark (written xs) p (omega (arith, length-map xs line)) h in
-    ap (λ v. length (records_of v)) (written_removed xs p) ∙ ap length (remark_removed (written xs) p t.0 t.1)
-
--- a record line has a place among the records
-pub told_record : (ls : List Line) (p : ℕ) → is_record (item ls p) ≡ true → (x : List ℕ) × (item ls p ≡ some (record_line x))
-told_record [] p h = let z : ◌≡◌ {A = ℕ} 0 1 = cc in absurd (omega arith)
-told_record (record_line x ∷ ls) zero h = (x, refl)
-told_record (remark_line t ∷ ls) zero h = let z : ◌≡◌ {A = ℕ} 0 1 = cc in absurd (omega arith)
-told_record (l ∷ ls) (suc p) h = told_record ls p h
-
--- no more records than lines
-pub records_few : (ls : List Line) → length (records_of ls) ≤ length ls
-records_few [] = omega arith
-records_few (record_line x ∷ ls) = omega (arith, records_few ls)
-records_few (remark_line t ∷ ls) = omega (arith, records_few ls)
-
-module _ (xs : List StoredLine) (ys : List (List ℕ)) (p j : ℕ) (counted : length (records_of (written xs)) ≡ length ys) (at : j ≡ records_before p (written xs)) where
-  pub j_within : j ≤ length ys
-  j_within = omega (arith, before_within (written xs) p)
-
-  pub counted_inserted : (x : List ℕ) → length (records_of (written (insert xs p (Record x)))) ≡ length (insert ys j x)
-  counted_inserted x =
-      let e = ap (λ v. length (records_of v)) (written_inserted xs p (Record x)) ∙ ap length (records_inserted (written xs) p x) in
-      e ∙ length-insert (records_of (written xs)) (records_before p (written xs)) x (before_within (written xs) p) ∙ ap (λ n. n + 1) counted ∙ sym (length-insert ys j x j_within)
-
-  module _ (is : is_record (item (written xs) p) ≡ true) where
-    pub p_below : p < length xs
-    p_below = let h = told_record (written xs) p is in omega (arith, item_below (written xs) p (record_line h.0) h.1, length-map xs line)
-
-    pub j_below : j < length ys
-    j_below = let h = told_record (written xs) p is in omega (arith, record_below (written xs) p h.0 h.1)
-
-    pub counted_set : (x y : List ℕ) → length (records_of (written (set xs p (Record x)))) ≡ length (set ys j y)
-    counted_set x y =
-        let h = told_record (written xs) p is in
-        ap (λ v. length (records_of v)) (written_set xs p (Record x)) ∙ ap length (record_set (written xs) p h.0 x h.1)
-        ∙ length-set (records_of (written xs)) (records_before p (written xs)) x ∙ counted ∙ sym (length-set ys j y)
-
-    pub counted_removed : length (records_of (written (remove xs p))) ≡ length (remove ys j)
-    counted_removed =
-        let h = told_record (written xs) p is in
-        let e = ap (λ v. length (records_of v)) (written_removed xs p) ∙ ap length (records_removed (written xs) p h.0 h.1) in
-        let a = length-remove (records_of (written xs)) (records_before p (written xs)) (record_below (written xs) p h.0 h.1) in
-        let b = length-remove ys j j_below in
-        omega arith
-
--- An edit of the three lists: the invariant holds again, and the sheet, the table and the links are these.
-pub record Edited {R : Type 0} (s : Pair R) (ls : SlotList StoredLine) (rs : SlotList (List ℕ)) (ks : SlotList R) (told : List Line) (ys : List (List ℕ)) (zs : List R) : Type 0 where
-  pub counted : length (records_of (written (items ls))) ≡ length (items rs)
-  pub linked : length (items ks) ≡ length (items rs)
-  pub roomy : (s.size ≤ room ls) × (s.size ≤ room rs) × (s.size ≤ room ks)
-  pub lines_are : written (items ls) ≡ told
-  pub records_are : items rs ≡ ys
-  pub links_are : items ks ≡ zs
+  link_below : at.number < length (items s.links)
+  link_below = omega (arith, number_below, s.linked)
 
 module _ {R : Type 0} (s : Pair R) (ls : SlotList StoredLine) (rs : SlotList (List ℕ)) (ks : SlotList R) where
-  pub edited : (xs : List StoredLine) (told : List Line) (ys : List (List ℕ)) (zs : List R) → Holds s.lines ls xs → Holds s.records rs ys → Holds s.links ks zs →
-      written xs ≡ told → length (records_of (written xs)) ≡ length ys → length zs ≡ length ys → Edited s ls rs ks told ys zs
-  edited xs told ys zs hl hr hk is e f = record {
-    counted = ap (λ v. length (records_of (written v))) hl.items_are ∙ e ∙ sym (ap length hr.items_are);
-    linked = ap length hk.items_are ∙ f ∙ sym (ap length hr.items_are);
-    roomy = (omega (arith, hl.same_room, s.roomy.0), omega (arith, hr.same_room, s.roomy.1), omega (arith, hk.same_room, s.roomy.2));
-    lines_are = ap written hl.items_are ∙ is;
-    records_are = hr.items_are;
-    links_are = hk.items_are;
-  }
+  edited : (xs : List StoredLine) (lines : List Line) (ys : List (List ℕ)) (zs : List R) → Holds s.lines ls xs → Holds s.records rs ys → Holds s.links ks zs →
+      written xs ≡ lines → length (records_of lines) ≡ length ys → length zs ≡ length ys → Edited s ls rs ks (holding (state s) lines ys zs)
+  edited xs lines ys zs hl hr hk is e f =
+      let at : written (items ls) ≡ lines = ap written hl.items_are ∙ is in
+      record {
+        kept = record {
+          counted = ap (λ v. length (records_of v)) at ∙ e ∙ sym (ap length hr.items_are);
+          linked = ap length hk.items_are ∙ f ∙ sym (ap length hr.items_are);
+          roomy = (omega (arith, hl.same_room, s.roomy.0), omega (arith, hr.same_room, s.roomy.1), omega (arith, hk.same_room, s.roomy.2));
+        };
+        state_is = same_state _ _ refl refl at hr.items_are hk.items_are;
+      }
 
-  module _ {U V W : Type 0} (p j : ℕ) (at : j ≡ records_before p (written (items s.lines))) (a : Result U Refusal) (b : Result V Refusal) (c : Result W Refusal) where
-    pub added : (x y : List ℕ) (z : R) → p ≤ length (written (items s.lines)) → length (written (items s.lines)) < s.size →
-        Inserts s.lines p (Record x) a ls → Inserts s.records j y b rs → Inserts s.links j z c ks →
-        Edited s ls rs ks (insert (written (items s.lines)) p (record_line x)) (insert (items s.records) j y) (insert (items s.links) j z)
-    added x y z le lt f g h =
+  pub added : {U V W : Type 0} (at : Place) (a : Result U Refusal) (b : Result V Refusal) (c : Result W Refusal) → OpensAt at (state s) → length (state s).lines < s.size →
+      Inserts s.lines at.line (Record zeros) a ls → Inserts s.records at.number zeros b rs → Inserts s.links at.number s.blank c ks → Edited s ls rs ks (with_record at (state s))
+  added at a b c o lt f g h =
+      let xs = items s.lines in
+      let n = length-map xs line in
+      let few = records_within (written xs) in
+      let le : at.number ≤ length (items s.records) = omega (arith, before_within (written xs) at.line, s.counted) in
+      let long = length-insert (records_of (written xs)) (records_before at.line (written xs)) zeros (before_within (written xs) at.line) in
+      edited (insert xs at.line (Record zeros)) _ _ _
+      (inserts_hold s.lines ls at.line _ a (omega arith) (omega (arith, s.roomy.0)) f)
+      (inserts_hold s.records rs at.number _ b le (omega (arith, s.roomy.1, s.counted)) g)
+      (inserts_hold s.links ks at.number _ c (omega (arith, s.linked)) (omega (arith, s.roomy.2, s.counted, s.linked)) h)
+      (sheet_inserted xs at.line (Record zeros))
+      (ap length (records_inserted (written xs) at.line zeros) ∙ long ∙ ap (λ n. n + 1) s.counted ∙ sym (length-insert (items s.records) at.number zeros le))
+      (length-insert (items s.links) at.number s.blank (omega (arith, s.linked)) ∙ ap (λ n. n + 1) s.linked ∙ sym (length-insert (items s.records) at.number zeros le))
+
+  module _ (at : Place) (st : StandsAt at (state s)) where
+    pub put_in_place : {U V W : Type 0} (x y : List ℕ) (z : R) (a : Result U Refusal) (b : Result V Refusal) (c : Result W Refusal) →
+        Sets s.lines at.line (Record x) a ls → Sets s.records at.number y b rs → Sets s.links at.number z c ks → Edited s ls rs ks (with_rows at x y z (state s))
+    put_in_place x y z a b c f g h =
         let xs = items s.lines in
-        let n = length-map xs line in
-        let few = records_few (written xs) in
-        let le_j = j_within xs (items s.records) p j s.counted at in
-        edited (insert xs p (Record x)) _ _ _
-        (inserts_hold s.lines ls p (Record x) a (omega arith) (omega (arith, s.roomy.0)) f)
-        (inserts_hold s.records rs j y b (omega arith) (omega (arith, s.roomy.1, s.counted)) g)
-        (inserts_hold s.links ks j z c (omega (arith, s.linked)) (omega (arith, s.roomy.2, s.counted, s.linked)) h)
-        (written_inserted xs p (Record x))
-        (counted_inserted xs (items s.records) p j s.counted at x ∙ length-insert _ j x le_j ∙ sym (length-insert _ j y le_j))
-        (length-insert (items s.links) j z (omega (arith, s.linked)) ∙ ap (λ n. n + 1) s.linked ∙ sym (length-insert _ j y le_j))
+        let r = told_record (written xs) at.line st.line in
+        edited (set xs at.line (Record x)) _ _ _
+        (sets_hold s.lines ls at.line _ a (line_below s at st) f) (sets_hold s.records rs at.number _ b (number_below s at st) g) (sets_hold s.links ks at.number _ c (link_below s at st) h)
+        (sheet_set xs at.line (Record x))
+        (ap length (record_set (written xs) at.line r.0 x r.1) ∙ length-set (records_of (written xs)) (records_before at.line (written xs)) x ∙ s.counted ∙ sym (length-set (items s.records) at.number y))
+        (length-set (items s.links) at.number z ∙ s.linked ∙ sym (length-set (items s.records) at.number y))
 
-    pub put_in_place : (x y : List ℕ) (z : R) → is_record (item (written (items s.lines)) p) ≡ true →
-        Sets s.lines p (Record x) a ls → Sets s.records j y b rs → Sets s.links j z c ks →
-        Edited s ls rs ks (set (written (items s.lines)) p (record_line x)) (set (items s.records) j y) (set (items s.links) j z)
-    put_in_place x y z is f g h =
+    pub taken_out : (u : Result StoredLine Refusal) (v : Result (List ℕ) Refusal) (w : Result R Refusal) →
+        Removes s.lines at.line u ls → Removes s.records at.number v rs → Removes s.links at.number w ks → Edited s ls rs ks (without_record at (state s))
+    taken_out u v w f g h =
         let xs = items s.lines in
-        let lt_p = p_below xs (items s.records) p j s.counted at is in
-        let lt_j = j_below xs (items s.records) p j s.counted at is in
-        edited (set xs p (Record x)) _ _ _
-        (sets_hold s.lines ls p (Record x) a lt_p f)
-        (sets_hold s.records rs j y b lt_j g)
-        (sets_hold s.links ks j z c (omega (arith, s.linked)) h)
-        (written_set xs p (Record x))
-        (counted_set xs (items s.records) p j s.counted at is x y)
-        (length-set (items s.links) j z ∙ s.linked ∙ sym (length-set (items s.records) j y))
+        let r = told_record (written xs) at.line st.line in
+        let gone = ap length (records_removed (written xs) at.line r.0 r.1) in
+        let a = length-remove (records_of (written xs)) (records_before at.line (written xs)) (record_below (written xs) at.line r.0 r.1) in
+        let b = length-remove (items s.records) at.number (number_below s at st) in
+        let d = length-remove (items s.links) at.number (link_below s at st) in
+        edited (remove xs at.line) _ _ _
+        (removes_hold s.lines ls at.line u (line_below s at st) f) (removes_hold s.records rs at.number v (number_below s at st) g) (removes_hold s.links ks at.number w (link_below s at st) h)
+        (sheet_removed xs at.line) (omega (arith, s.counted)) (omega (arith, s.linked))
 
-  module _ (p j : ℕ) (at : j ≡ records_before p (written (items s.lines))) where
-    pub taken_out : (u : Result StoredLine Refusal) (v : Result (List ℕ) Refusal) (w : Result R Refusal) → is_record (item (written (items s.lines)) p) ≡ true →
-        Removes s.lines p u ls → Removes s.records j v rs → Removes s.links j w ks →
-        Edited s ls rs ks (remove (written (items s.lines)) p) (remove (items s.records) j) (remove (items s.links) j)
-    taken_out u v w is f g h =
+    pub shifted : {U V W : Type 0} (to : Place) (u : Result U Refusal) (v : Result V Refusal) (w : Result W Refusal) → EndsAt at to (state s) →
+        Moves s.lines at.line to.line u ls → Moves s.records at.number to.number v rs → Moves s.links at.number to.number w ks → Edited s ls rs ks (moved_record at to (state s))
+    shifted to u v w en f g h =
         let xs = items s.lines in
-        let lt_p = p_below xs (items s.records) p j s.counted at is in
-        let lt_j = j_below xs (items s.records) p j s.counted at is in
-        let lt_k : j < length (items s.links) = omega (arith, s.linked) in
-        let m = length-remove (items s.links) j lt_k in
-        let n = length-remove (items s.records) j lt_j in
-        edited (remove xs p) _ _ _
-        (removes_hold s.lines ls p u lt_p f) (removes_hold s.records rs j v lt_j g) (removes_hold s.links ks j w lt_k h)
-        (written_removed xs p) (counted_removed xs (items s.records) p j s.counted at is) (omega (arith, s.linked))
+        let x = told_record (written xs) at.line st.line in
+        let below = before_removed_below (written xs) at.line to.line st.line in
+        let n : to.number < length (items s.records) = omega (arith, s.counted, en.number) in
+        let k : to.number < length (items s.links) = omega (arith, s.linked) in
+        let long = length_moved (records_of (written xs)) (records_before at.line (written xs)) (records_before to.line (remove (written xs) at.line)) (record_below (written xs) at.line x.0 x.1) below in
+        edited (moved xs at.line to.line) _ _ _
+        (moves_hold s.lines ls at.line to.line u (line_below s at st) (omega (arith, en.within, length-map xs line)) f) (moves_hold s.records rs at.number to.number v (number_below s at st) n g) (moves_hold s.links ks at.number to.number w (link_below s at st) k h)
+        (sheet_moved xs at.line to.line (line_below s at st))
+        (ap length (records_moved (written xs) at.line to.line x.0 x.1) ∙ long ∙ s.counted ∙ sym (length_moved (items s.records) at.number to.number (number_below s at st) n))
+        (length_moved (items s.links) at.number to.number (link_below s at st) k ∙ s.linked ∙ sym (length_moved (items s.records) at.number to.number (number_below s at st) n))
 
-pub dropped : {R : Type 0} (s : Pair R) (ls : SlotList StoredLine) (p : ℕ) (u : Result StoredLine Refusal) → p < length (written (items s.lines)) → is_record (item (written (items s.lines)) p) ≡ false →
-    Removes s.lines p u ls → Edited s ls s.records s.links (remove (written (items s.lines)) p) (items s.records) (items s.links)
-dropped s ls p u lt is f =
-    let xs = items s.lines in
-    let lt_p : p < length xs = omega (arith, length-map xs line) in
-    edited s ls s.records s.links (remove xs p) _ _ _ (removes_hold s.lines ls p u lt_p f)
-    (held s.records) (held s.links)
-    (written_removed xs p) (counted_dropped xs p lt_p is ∙ s.counted) s.linked
+-- ---- edits of a remark
 
-pub noted : {R U : Type 0} (s : Pair R) (ls : SlotList StoredLine) (p : ℕ) (m : Noted) (u : Result U Refusal) → p ≤ length (written (items s.lines)) → length (written (items s.lines)) < s.size →
-    Inserts s.lines p (Remark m) u ls → Edited s ls s.records s.links (insert (written (items s.lines)) p (remark_line (text m))) (items s.records) (items s.links)
-noted s ls p m u le lt f =
-    let xs = items s.lines in
-    let n = length-map xs line in
-    edited s ls s.records s.links (insert xs p (Remark m)) _ _ _ (inserts_hold s.lines ls p (Remark m) u (omega arith) (omega (arith, s.roomy.0)) f)
-    (held s.records) (held s.links)
-    (written_inserted xs p (Remark m))
-    (ap (λ v. length (records_of v)) (written_inserted xs p (Remark m)) ∙ ap length (remark_inserted (written xs) p (text m)) ∙ s.counted) s.linked
+module _ {R : Type 0} (s : Pair R) (ls : SlotList StoredLine) where
+  -- an edit of the lines that leaves the records as they are
+  lines_edited : (xs : List StoredLine) (lines : List Line) → Holds s.lines ls xs → written xs ≡ lines → records_of lines ≡ records_of (written (items s.lines)) →
+      Edited s ls s.records s.links (holding (state s) lines (items s.records) (items s.links))
+  lines_edited xs lines h is e = edited s ls s.records s.links xs lines _ _ h (held s.records) (held s.links) is (ap length e ∙ s.counted) s.linked
+
+  pub noted : {U : Type 0} (p : ℕ) (m : Noted) (u : Result U Refusal) → p ≤ length (state s).lines → length (state s).lines < s.size →
+      Inserts s.lines p (Remark m) u ls → Edited s ls s.records s.links (with_remark p (text m) (state s))
+  noted p m u le lt f =
+      let xs = items s.lines in
+      let n = length-map xs line in
+      lines_edited (insert xs p (Remark m)) _ (inserts_hold s.lines ls p _ u (omega arith) (omega (arith, s.roomy.0)) f) (sheet_inserted xs p (Remark m)) (remark_inserted (written xs) p (text m))
+
+  module _ (p : ℕ) (lt : p < length (state s).lines) (is : is_record (item (state s).lines p) ≡ false) where
+    remark_below : p < length (items s.lines)
+    remark_below = omega (arith, length-map (items s.lines) line)
+
+    pub dropped : (u : Result StoredLine Refusal) → Removes s.lines p u ls → Edited s ls s.records s.links (without_remark p (state s))
+    dropped u f =
+        let xs = items s.lines in
+        let t = told_remark (written xs) p lt is in
+        lines_edited (remove xs p) _ (removes_hold s.lines ls p u remark_below f) (sheet_removed xs p) (remark_removed (written xs) p t.0 t.1)
+
+    pub shifted_remark : {U : Type 0} (q : ℕ) (u : Result U Refusal) → q < length (state s).lines → Moves s.lines p q u ls → Edited s ls s.records s.links (moved_remark p q (state s))
+    shifted_remark q u lq f =
+        let xs = items s.lines in
+        let t = told_remark (written xs) p lt is in
+        lines_edited (moved xs p q) _ (moves_hold s.lines ls p q u remark_below (omega (arith, length-map xs line)) f) (sheet_moved xs p q remark_below) (remark_moved (written xs) p q t.0 t.1)

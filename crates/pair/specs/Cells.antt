@@ -10,7 +10,7 @@ use Rattle.links.specs.declared.rows.ColumnFault.{ColumnFault}
 use Rattle.documents.specs.declared.fault.Fault.{Fault}
 use Rattle.documents.specs.declared.fault.Fault.TheVariants.{NotInDocument, NotARecord, NotOfKind}
 use Rattle.documents.specs.Faults.{link_fault}
-use Rattle.documents.specs.Documents.{Line, item, line_row}
+use Rattle.documents.specs.Documents.{item, Form}
 use Rattle.documents.specs.Across.{link_answer}
 use Rattle.documents.specs.Attempts.{kind_answer}
 
@@ -24,11 +24,11 @@ abbrev pub column_told : {X : Type 0} → ℕ → Result X ColumnFault → Resul
 column_told p (Ok x) = Ok x
 column_told p (Err f) = Err (link_fault p f.column f.refusal)
 
--- the row of the line at p; a refusal is told at another position
-abbrev pub row_at : ℕ → ℕ → List Line → Result (List ℕ) Fault
-row_at told p lines = do
-  x ← need (item lines p) (NotInDocument told)
-  need (line_row x) (NotARecord told)
+-- the row of the record at p in a document; a refusal is told at another position
+abbrev pub row_at : {X : Type 0} → Form X → ℕ → ℕ → List X → Result (List ℕ) Fault
+row_at F told p xs = do
+  x ← need (item xs p) (NotInDocument told)
+  need (F.row x) (NotARecord told)
 
 -- the row with the change in column c, its tests in the order of their numbers, told at a position
 abbrev pub cell_changed : (ℕ → Kind) → ℕ → ℕ → Change → List ℕ → Result (List ℕ) Fault

@@ -1,14 +1,6 @@
--- A frame that was read: what it says, and how long its text is.
-use Rattle.std.specs.Prelude.{◌≤◌, length, Result}
-use Rattle.kinds.specs.declared.side.Side.{Side}
-use Rattle.frames.specs.declared.frame.Frame.{Frame}
-use Rattle.frames.specs.Edits.{Edit, keep, insert, remark, delete, move, change, edit}
-use Rattle.documents.specs.declared.fault.Fault.{Fault}
-use Rattle.pair.specs.Cells.{mapped}
-
--- the answer to a frame, as a side and an edit
-abbrev pub saying : Result Frame Fault → Result (Side × Edit) Fault
-saying r = mapped (λ f. (f.side, edit f.operation)) r
+-- How long the text of a frame is.
+use Rattle.std.specs.Prelude.{◌≤◌, length}
+use Rattle.frames.specs.Edits.{Edit, keep, insert, remark, delete, move, change}
 
 -- the text, if there is one, has a place in a remark
 abbrev pub Short : Edit → Type 0

@@ -2,4 +2,5 @@ pub mod Written
 pub mod Cells
 pub mod Frames
 pub mod State
+pub mod Places
 pub mod Edits

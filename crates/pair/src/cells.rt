@@ -1,6 +1,7 @@
 // Answers of kinds and links as a pair gives them, and what is put together of them.
 ghost use Rattle.std.specs.Prelude.{◌≡◌, ◌≤◌, length};
 ghost use Rattle.frames.specs.Edits.{edit};
+ghost use Rattle.documents.specs.Faults.{kind_fault, link_fault};
 ghost use Rattle.documents.specs.Across.{change_at};
 ghost use Rattle.documents.specs.Attempts.{kind_answer};
 ghost use Rattle.pair.specs.Cells.{column_told};
@@ -14,6 +15,62 @@ use kinds::refusal::Refusal;
 use links::refusal::CarryRefusal;
 use links::rows::ColumnFault;
 
+// A change of a cell, with the position that its refusals are told at.
+#[derive(Clone, Copy)]
+pub(crate) struct CellChange {
+    pub position: usize,
+    pub column: u8,
+    pub change: Change,
+}
+
+impl CellChange {
+    // The change of a column, told at a position.
+    pub(crate) fn new(position: usize, column: u8, change: Change) -> CellChange
+        ensures { result ≡ record { position = position; column = column; change = change } }
+    {
+        CellChange {
+            position,
+            column,
+            change,
+        }
+    }
+
+    // The operation that makes the change in the record at a position.
+    pub(crate) fn operation(self, at: usize) -> Operation<'static>
+        ensures { edit result ≡ change_at at self.column self.change }
+    {
+        match self.change {
+            Change::Keep => Operation::Keep,
+            change => Operation::Change {
+                at,
+                column: self.column,
+                change,
+            },
+        }
+    }
+}
+
+// What a link's refusal is at a position.
+fn link_fault(position: usize, fault: ColumnFault) -> Fault
+    ensures { result ≡ link_fault position fault.column fault.refusal }
+{
+    let column = fault.column;
+    match fault.refusal {
+        CarryRefusal::NotOfKind => Fault::NotOfKind { position, column },
+        CarryRefusal::NoTranslation => Fault::NoTranslation { position, column },
+    }
+}
+
+// What a kind's refusal is at a position and a column.
+fn kind_fault(position: usize, column: u8, refusal: Refusal) -> Fault
+    ensures { result ≡ kind_fault position column refusal }
+{
+    match refusal {
+        Refusal::NotOfKind | Refusal::NoSuchKind => Fault::NotOfKind { position, column },
+        Refusal::DoesNotApply => Fault::DoesNotApply { position, column },
+    }
+}
+
 // What a row of links answers; a refusal is told at a position.
 pub(crate) fn in_column<X: Copy>(
     answer: Result<X, ColumnFault>,
@@ -21,44 +78,14 @@ pub(crate) fn in_column<X: Copy>(
 ) -> Result<X, Fault>
     ensures { result ≡ column_told position answer }
 {
-    match answer {
-        Ok(value) => Ok(value),
-        Err(fault) => {
-            let column = fault.column;
-            match fault.refusal {
-                CarryRefusal::NotOfKind => Err(Fault::NotOfKind { position, column }),
-                CarryRefusal::NoTranslation => Err(Fault::NoTranslation { position, column }),
-            }
-        }
-    }
+    answer.map_err(|fault| link_fault(position, fault))
 }
 
-// What a kind answers; a refusal is told at a position and a column.
-pub(crate) fn of_kind(
-    answer: Result<u32, Refusal>,
-    position: usize,
-    column: u8,
-) -> Result<u32, Fault>
-    ensures { result ≡ kind_answer position column answer }
+// What a kind answers to a change of a cell; a refusal is told at its position and its column.
+pub(crate) fn of_kind(answer: Result<u32, Refusal>, edit: CellChange) -> Result<u32, Fault>
+    ensures { result ≡ kind_answer edit.position edit.column answer }
 {
-    match answer {
-        Ok(value) => Ok(value),
-        Err(refusal) => match refusal {
-            Refusal::NotOfKind => Err(Fault::NotOfKind { position, column }),
-            Refusal::DoesNotApply => Err(Fault::DoesNotApply { position, column }),
-            Refusal::NoSuchKind => Err(Fault::NotOfKind { position, column }),
-        },
-    }
-}
-
-// A carried change, told at a position.
-pub(crate) fn tell(at: usize, column: u8, change: Change) -> Operation<'static>
-    ensures { edit result ≡ change_at at column change }
-{
-    match change {
-        Change::Keep => Operation::Keep,
-        change => Operation::Change { at, column, change },
-    }
+    answer.map_err(|refusal| kind_fault(edit.position, edit.column, refusal))
 }
 
 // A text of at most 24 bytes, as a remark.
@@ -68,7 +95,7 @@ pub(crate) fn remark(words: &[u8]) -> Remark
 {
     let len = words.len();
     let mut bytes = [0u8; 24];
-    bytes[0..len].copy_from_slice(words);
+    bytes[..len].copy_from_slice(words);
     Remark {
         len: len as u8,
         bytes,

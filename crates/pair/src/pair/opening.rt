@@ -13,15 +13,6 @@ use slots::SlotList;
 // The most lines of a sheet.
 const MOST_LINES: usize = 256;
 
-// Copies an item into every slot.
-fn fill<T: Copy>(slots: &mut [T], item: T)
-    ensures { slots.new ≡ replicate (length slots.old) item }
-{
-    for i in 0..slots.len() {
-        slots[i] = item;
-    }
-}
-
 impl<'a, R: Rows> Pair<'a, R> {
     // Opens a pair over lent slots, both documents empty. It holds as many lines as the shortest of the three has slots, and
     // at most 256.
@@ -35,10 +26,12 @@ impl<'a, R: Rows> Pair<'a, R> {
         ensures reset { table result.links ≡ replicate (length links.old) (R.Rows.columns.fresh pattern) }
         ensures promise { Keeps R.Rows.columns (least lines.old records.old links.old) pattern }
     {
-        let size = MOST_LINES.min(lines.len().min(records.len().min(links.len())));
+        let slots = lines.len().min(records.len()).min(links.len());
+        let size = slots.min(MOST_LINES);
         let mut blank = pattern;
         blank.reset();
-        fill(links, blank);
+        // Not `fill`, which clones: nothing says that a row's clone is the row.
+        links.fill_with(|| blank);
         Pair {
             size,
             blank,

@@ -1,30 +1,17 @@
 // Playing a frame.
-ghost use Rattle.std.specs.Prelude.{◌≡◌, Ok, Err};
 ghost use Rattle.kinds.specs.declared.side.Side.TheVariants.{Left, Right};
 ghost use Rattle.frames.specs.Edits.{edit};
-ghost use Rattle.frames.specs.Frames.{frame};
-ghost use Rattle.documents.specs.Attempts.{read, given, attempt};
-ghost use Rattle.pair.specs.Frames.{saying, Short};
+ghost use Rattle.documents.specs.Attempts.{given, attempt};
+ghost use Rattle.pair.specs.Frames.{Short};
 ghost use Rattle.pair.specs.State.{state, Plays};
 
-use crate::cells::remark;
+use crate::cells::{CellChange, remark};
 use crate::pair::Pair;
 use documents::fault::Fault;
 use frames::frame::{Frame, Operation};
 use frames::refusal::FrameRefusal;
 use kinds::side::Side;
 use links::rows::Rows;
-
-// The frame that bytes say.
-fn read_frame(bytes: &[u8]) -> Result<Frame<'_>, Fault>
-    ensures says { saying result ≡ read (frame bytes.now) }
-    ensures short { elim result [ Ok f ↦ Short (edit f.operation) | Err _ ↦ Unit {0} ] }
-{
-    match Frame::read(bytes) {
-        Ok(said) => Ok(said),
-        Err(refusal) => Err(Fault::NotAFrame(refusal)),
-    }
-}
 
 impl<'a, R: Rows> Pair<'a, R> {
     // Plays an operation from the sheet.
@@ -38,7 +25,9 @@ impl<'a, R: Rows> Pair<'a, R> {
             Operation::Remark { at, text } => self.insert_remark(at, remark(text)),
             Operation::Delete { at } => self.delete_line(at),
             Operation::Move { from, to } => self.move_line(from, to),
-            Operation::Change { at, column, change } => self.change_line(at, column, change),
+            Operation::Change { at, column, change } => {
+                self.change_line(CellChange::new(at, column, change))
+            }
         }
     }
 
@@ -52,7 +41,9 @@ impl<'a, R: Rows> Pair<'a, R> {
             Operation::Remark { .. } => Err(Fault::NotAFrame(FrameRefusal::RemarkFromTable)),
             Operation::Delete { at } => self.delete_record(at),
             Operation::Move { from, to } => self.move_record(from, to),
-            Operation::Change { at, column, change } => self.change_record(at, column, change),
+            Operation::Change { at, column, change } => {
+                self.change_record(CellChange::new(at, column, change))
+            }
         }
     }
 
@@ -60,7 +51,7 @@ impl<'a, R: Rows> Pair<'a, R> {
     pub fn play(&mut self, bytes: &[u8]) -> Result<Operation<'static>, Fault>
         ensures { Plays (attempt R.Rows.columns (state self.old) bytes.now) self.old result self.new }
     {
-        let said = read_frame(bytes)?;
+        let said = Frame::read(bytes)?;
         match said.side {
             Side::Left => self.play_sheet(said.operation),
             Side::Right => self.play_table(said.operation),

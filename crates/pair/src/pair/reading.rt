@@ -1,10 +1,11 @@
 // What a pair holds.
-ghost use Rattle.std.specs.Prelude.{◌≡◌, ◌<◌, true, length, Ok, Err};
-ghost use Rattle.kinds.specs.Answers.{need};
+ghost use Rattle.std.specs.Prelude.{◌≡◌, length, nat_lt};
+ghost use Rattle.kinds.specs.Answers.{need, test};
+ghost use Rattle.slots.specs.Slots.{items};
 ghost use Rattle.documents.specs.declared.fault.Fault.TheVariants.{NotInDocument};
 ghost use Rattle.documents.specs.Documents.{item, line};
-ghost use Rattle.documents.specs.Across.{is_record};
-ghost use Rattle.pair.specs.Cells.{mapped, row_at};
+ghost use Rattle.pair.specs.Cells.{mapped};
+ghost use Rattle.pair.specs.Places.{may_insert};
 ghost use Rattle.pair.specs.State.{state};
 
 use crate::pair::Pair;
@@ -12,6 +13,24 @@ use documents::fault::Fault;
 use documents::line::Line;
 use links::rows::Rows;
 use slots::SlotList;
+
+// The item of a list at a position; a refusal is told at another position.
+pub(crate) fn item_at<T: Copy>(list: &SlotList<'_, T>, at: usize, told: usize) -> Result<T, Fault>
+    ensures { result ≡ need (item (items list.now) at) (NotInDocument told) }
+{
+    list.get(at)
+        .map_err(|_| Fault::NotInDocument { position: told })
+}
+
+// Refuses a position that is not in a document of so many items.
+pub(crate) fn in_document(at: usize, length: usize) -> Result<(), Fault>
+    ensures { result ≡ test (nat_lt at length) (NotInDocument at) }
+{
+    if at >= length {
+        return Err(Fault::NotInDocument { position: at });
+    }
+    Ok(())
+}
 
 impl<'a, R: Rows> Pair<'a, R> {
     // The most lines that the sheet may have.
@@ -39,51 +58,26 @@ impl<'a, R: Rows> Pair<'a, R> {
     pub fn line(&self, at: usize) -> Result<Line, Fault>
         ensures { mapped line result ≡ need (item (state self.now).lines at) (NotInDocument at) }
     {
-        match self.lines.get(at) {
-            Ok(line) => Ok(line),
-            Err(_) => Err(Fault::NotInDocument { position: at }),
-        }
+        item_at(&self.lines, at, at)
     }
 
     // The record at a position.
     pub fn record(&self, at: usize) -> Result<[u32; 4], Fault>
         ensures { result ≡ need (item (state self.now).records at) (NotInDocument at) }
     {
-        self.record_at(at, at)
+        item_at(&self.records, at, at)
     }
 
-    // The row of line `p`; a refusal is told at another position.
-    pub(crate) fn row(&self, p: usize, told: usize) -> Result<[u32; 4], Fault>
-        ensures value { result ≡ row_at told p (state self.now).lines }
-        ensures there { elim result [ Ok _ ↦ is_record (item (state self.now).lines p) ≡ true | Err _ ↦ Unit {0} ] }
+    // Refuses a new item past the end of a document of so many items, and one that the sheet has no room for.
+    pub(crate) fn may_insert(&self, at: usize, length: usize) -> Result<(), Fault>
+        ensures { result ≡ may_insert at length (state self.now) }
     {
-        match self.lines.get(p) {
-            Ok(line) => match line {
-                Line::Record(row) => Ok(row),
-                Line::Remark(_) => Err(Fault::NotARecord { position: told }),
-            },
-            Err(_) => Err(Fault::NotInDocument { position: told }),
+        if at > length {
+            return Err(Fault::NotInDocument { position: at });
         }
-    }
-
-    // The row of record `j`; a refusal is told at another position.
-    pub(crate) fn record_at(&self, j: usize, told: usize) -> Result<[u32; 4], Fault>
-        ensures value { result ≡ need (item (state self.now).records j) (NotInDocument told) }
-        ensures below { elim result [ Ok _ ↦ j < length (state self.now).records | Err _ ↦ Unit {0} ] }
-    {
-        match self.records.get(j) {
-            Ok(row) => Ok(row),
-            Err(_) => Err(Fault::NotInDocument { position: told }),
+        if self.line_count() >= self.size {
+            return Err(Fault::SheetFull { position: at });
         }
-    }
-
-    // The link of record `j`; a refusal is told at another position.
-    pub(crate) fn link(&self, j: usize, told: usize) -> Result<R, Fault>
-        ensures { result ≡ need (item (state self.now).links j) (NotInDocument told) }
-    {
-        match self.links.get(j) {
-            Ok(link) => Ok(link),
-            Err(_) => Err(Fault::NotInDocument { position: told }),
-        }
+        Ok(())
     }
 }

@@ -5,32 +5,27 @@ ghost use Rattle.documents.specs.Attempts.{given};
 ghost use Rattle.pair.specs.Written.{text};
 ghost use Rattle.pair.specs.State.{state, Plays};
 
-use crate::cells::tell;
+use crate::cells::CellChange;
 use crate::pair::Pair;
+use crate::pair::reading::in_document;
 use documents::fault::Fault;
 use documents::line::Remark;
 use frames::frame::Operation;
-use kinds::change::Change;
 use kinds::side::Side;
 use links::rows::Rows;
-use slots::SlotList;
 
 impl<'a, R: Rows> Pair<'a, R> {
+    // Inserts a record as line `p`.
     pub(crate) fn insert_line(&mut self, p: usize) -> Result<Operation<'static>, Fault>
         ensures { Plays (given R.Rows.columns Left (insert p) (state self.old)) self.old result self.new }
     {
-        let n = self.line_count();
-        if p > n {
-            return Err(Fault::NotInDocument { position: p });
-        }
-        if n >= self.size {
-            return Err(Fault::SheetFull { position: p });
-        }
-        let j = self.records_before(p);
-        self.add(p, j);
-        Ok(Operation::Insert { at: j })
+        self.may_insert(p, self.line_count())?;
+        let place = self.place_of_line(p);
+        self.add(place);
+        Ok(Operation::Insert { at: place.number })
     }
 
+    // Inserts a remark as line `p`.
     pub(crate) fn insert_remark(
         &mut self,
         p: usize,
@@ -38,52 +33,43 @@ impl<'a, R: Rows> Pair<'a, R> {
     ) -> Result<Operation<'static>, Fault>
         ensures { Plays (given R.Rows.columns Left (remark p (text words)) (state self.old)) self.old result self.new }
     {
-        let n = self.line_count();
-        if p > n {
-            return Err(Fault::NotInDocument { position: p });
-        }
-        if n >= self.size {
-            return Err(Fault::SheetFull { position: p });
-        }
+        self.may_insert(p, self.line_count())?;
         self.add_remark(p, words);
         Ok(Operation::Keep)
     }
 
+    // Deletes line `p`.
     pub(crate) fn delete_line(&mut self, p: usize) -> Result<Operation<'static>, Fault>
         ensures { Plays (given R.Rows.columns Left (delete p) (state self.old)) self.old result self.new }
     {
-        let n = self.line_count();
-        if p >= n {
-            return Err(Fault::NotInDocument { position: p });
-        }
-        let j = self.records_before(p);
+        in_document(p, self.line_count())?;
         if self.is_record(p) {
-            self.take_out(p, j);
-            Ok(Operation::Delete { at: j })
+            let place = self.place_of_line(p);
+            self.take_out(place);
+            Ok(Operation::Delete { at: place.number })
         } else {
             self.drop_remark(p);
             Ok(Operation::Keep)
         }
     }
 
+    // Moves line `p` so that it ends as line `q`.
     pub(crate) fn move_line(&mut self, p: usize, q: usize) -> Result<Operation<'static>, Fault>
         ensures { Plays (given R.Rows.columns Left (move p q) (state self.old)) self.old result self.new }
     {
-        let n = self.line_count();
-        if p >= n {
-            return Err(Fault::NotInDocument { position: p });
-        }
-        if q >= n {
-            return Err(Fault::NotInDocument { position: q });
-        }
-        let j = self.records_before(p);
+        in_document(p, self.line_count())?;
+        in_document(q, self.line_count())?;
         if self.is_record(p) {
-            let b = self.before_without(q, p);
-            self.shift(p, q, j, b);
-            if j == b {
+            let from = self.place_of_line(p);
+            let to = self.end_at_line(from, q);
+            self.shift(from, to);
+            if from.number == to.number {
                 Ok(Operation::Keep)
             } else {
-                Ok(Operation::Move { from: j, to: b })
+                Ok(Operation::Move {
+                    from: from.number,
+                    to: to.number,
+                })
             }
         } else {
             self.shift_remark(p, q);
@@ -91,19 +77,16 @@ impl<'a, R: Rows> Pair<'a, R> {
         }
     }
 
-    pub(crate) fn change_line(
-        &mut self,
-        p: usize,
-        c: u8,
-        e: Change,
-    ) -> Result<Operation<'static>, Fault>
-        ensures { Plays (given R.Rows.columns Left (change p c e) (state self.old)) self.old result self.new }
+    // Changes a cell of a record line.
+    pub(crate) fn change_line(&mut self, edit: CellChange) -> Result<Operation<'static>, Fault>
+        ensures { Plays (given R.Rows.columns Left (change edit.position edit.column edit.change) (state self.old)) self.old result self.new }
     {
-        let x = self.try_line(p, p, c, e)?;
-        let j = self.records_before(p);
-        let (carried, link) = self.carried(Side::Left, j, p, c, e)?;
-        let y = self.retry_record(j, p, c, carried)?;
-        self.place(p, j, x, y, link);
-        Ok(tell(j, c, carried))
+        let x = self.try_change(Side::Left, edit.position, edit)?;
+        let place = self.place_of_line(edit.position);
+        let (change, link) = self.carried(Side::Left, place.number, edit)?;
+        let carried = CellChange { change, ..edit };
+        let y = self.retry_change(Side::Right, place.number, carried)?;
+        self.put(place, x, y, link);
+        Ok(carried.operation(place.number))
     }
 }

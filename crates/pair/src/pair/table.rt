@@ -4,76 +4,63 @@ ghost use Rattle.frames.specs.Edits.{insert, delete, move, change};
 ghost use Rattle.documents.specs.Attempts.{given};
 ghost use Rattle.pair.specs.State.{state, Plays};
 
-use crate::cells::tell;
+use crate::cells::CellChange;
 use crate::pair::Pair;
+use crate::pair::reading::in_document;
 use documents::fault::Fault;
 use frames::frame::Operation;
-use kinds::change::Change;
 use kinds::side::Side;
 use links::rows::Rows;
-use slots::SlotList;
 
 impl<'a, R: Rows> Pair<'a, R> {
+    // Inserts a record as record `j`.
     pub(crate) fn insert_record(&mut self, j: usize) -> Result<Operation<'static>, Fault>
         ensures { Plays (given R.Rows.columns Right (insert j) (state self.old)) self.old result self.new }
     {
-        let m = self.record_count();
-        if j > m {
-            return Err(Fault::NotInDocument { position: j });
-        }
-        let n = self.line_count();
-        if n >= self.size {
-            return Err(Fault::SheetFull { position: j });
-        }
-        let p = self.place_for(j);
-        self.add(p, j);
-        Ok(Operation::Insert { at: p })
+        self.may_insert(j, self.record_count())?;
+        let place = self.place_of_record(j);
+        self.add(place);
+        Ok(Operation::Insert { at: place.line })
     }
 
+    // Deletes record `j`.
     pub(crate) fn delete_record(&mut self, j: usize) -> Result<Operation<'static>, Fault>
         ensures { Plays (given R.Rows.columns Right (delete j) (state self.old)) self.old result self.new }
     {
-        let m = self.record_count();
-        if j >= m {
-            return Err(Fault::NotInDocument { position: j });
-        }
-        let p = self.line_of(j);
-        self.take_out(p, j);
-        Ok(Operation::Delete { at: p })
+        in_document(j, self.record_count())?;
+        let place = self.place_of_record(j);
+        self.take_out(place);
+        Ok(Operation::Delete { at: place.line })
     }
 
+    // Moves record `j` so that it ends as record `k`.
     pub(crate) fn move_record(&mut self, j: usize, k: usize) -> Result<Operation<'static>, Fault>
         ensures { Plays (given R.Rows.columns Right (move j k) (state self.old)) self.old result self.new }
     {
-        let m = self.record_count();
-        if j >= m {
-            return Err(Fault::NotInDocument { position: j });
-        }
-        if k >= m {
-            return Err(Fault::NotInDocument { position: k });
-        }
+        in_document(j, self.record_count())?;
+        in_document(k, self.record_count())?;
         if j == k {
             return Ok(Operation::Keep);
         }
-        let p = self.line_of(j);
-        let q = self.place_without(k, p, j);
-        self.shift(p, q, j, k);
-        Ok(Operation::Move { from: p, to: q })
+        let from = self.place_of_record(j);
+        let to = self.end_at_record(from, k);
+        self.shift(from, to);
+        Ok(Operation::Move {
+            from: from.line,
+            to: to.line,
+        })
     }
 
-    pub(crate) fn change_record(
-        &mut self,
-        j: usize,
-        c: u8,
-        e: Change,
-    ) -> Result<Operation<'static>, Fault>
-        ensures { Plays (given R.Rows.columns Right (change j c e) (state self.old)) self.old result self.new }
+    // Changes a cell of a record.
+    pub(crate) fn change_record(&mut self, edit: CellChange) -> Result<Operation<'static>, Fault>
+        ensures { Plays (given R.Rows.columns Right (change edit.position edit.column edit.change) (state self.old)) self.old result self.new }
     {
-        let y = self.try_record(j, j, c, e)?;
-        let p = self.line_of(j);
-        let (carried, link) = self.carried(Side::Right, j, j, c, e)?;
-        let x = self.retry_line(p, j, c, carried)?;
-        self.place(p, j, x, y, link);
-        Ok(tell(p, c, carried))
+        let y = self.try_change(Side::Right, edit.position, edit)?;
+        let place = self.place_of_record(edit.position);
+        let (change, link) = self.carried(Side::Right, edit.position, edit)?;
+        let carried = CellChange { change, ..edit };
+        let x = self.retry_change(Side::Left, place.line, carried)?;
+        self.put(place, x, y, link);
+        Ok(carried.operation(place.line))
     }
 }

@@ -1,14 +1,8 @@
-use Rattle.std.proofs.Common.{refl}
-use Rattle.pair.proofs.States.{same_state}
 use Rattle.pair.proofs.Kept.{noted}
 use Rattle.pair.proofs.pair.Pair.add_remark.Goals as goal
 
 pub invariant_of-self : goal.invariant_of-self
-invariant_of-self g c =
-    let e = noted c.args.self.now _ c.args.p c.args.remark c.insert.result c.requires.place c.requires.room c.insert.ensures in
-    record { counted = e.counted; linked = e.linked; roomy = e.roomy }
+invariant_of-self g c = (noted c.args.self.now _ c.args.p c.args.remark _ c.requires.place c.requires.room c.insert.ensures).kept
 
 pub returns : goal.returns
-returns g c =
-    let e = noted c.args.self.now _ c.args.p c.args.remark c.insert.result c.requires.place c.requires.room c.insert.ensures in
-    same_state _ _ refl refl e.lines_are e.records_are e.links_are
+returns g c = (noted c.args.self.now _ c.args.p c.args.remark _ c.requires.place c.requires.room c.insert.ensures).state_is

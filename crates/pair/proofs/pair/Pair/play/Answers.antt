@@ -3,7 +3,7 @@ use Rattle.pair.proofs.Playing.{plays_frame}
 use Rattle.pair.proofs.pair.Pair.play.Goals as goal
 
 pub returns-in-Left : goal.returns-in-Left
-returns-in-Left g c = plays_frame g.R.Rows.columns c.args.self.now _ c.args.bytes.now _ Left c.in_ok-said.said c.read_frame.result c.read_frame.ensures.says c.in_ok-said.was c.in-Left.is c.play_sheet.ensures
+returns-in-Left g c = plays_frame g.R.Rows.columns c.args.self.now _ c.args.bytes.now _ Left c.in_ok-said.said c.in_ok-said.ensures.says c.in-Left.is c.play_sheet.ensures
 
 pub returns-in-Right : goal.returns-in-Right
-returns-in-Right g c = plays_frame g.R.Rows.columns c.args.self.now _ c.args.bytes.now _ Right c.in_ok-said.said c.read_frame.result c.read_frame.ensures.says c.in_ok-said.was c.in-Right.is c.play_table.ensures
+returns-in-Right g c = plays_frame g.R.Rows.columns c.args.self.now _ c.args.bytes.now _ Right c.in_ok-said.said c.in_ok-said.ensures.says c.in-Right.is c.play_table.ensures
