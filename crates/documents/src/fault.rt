@@ -34,7 +34,7 @@ impl From<FrameRefusal> for Fault {
 }
 
 impl Fault {
-    // The number under which the fault is reported.
+    // The number under which the fault is reported. A match, since discriminants are for variants without fields.
     pub fn number(self) -> u8
         ensures { result ≡ fault_number self }
     {

@@ -3,7 +3,8 @@ ghost use Rattle.std.specs.Prelude.{◌≡◌, Some};
 ghost use Rattle.documents.specs.Documents.{line, line_row};
 ghost use Rattle.documents.specs.Across.{is_record};
 
-// A remark's text: the first `len` of the bytes.
+// A remark's text: the first `len` of the bytes. An array with a length beside it, since lines are copied into slots that the
+// caller lends: an `ArrayVec` isn't `Copy`, and a `String` would allocate.
 #[derive(Clone, Copy)]
 pub struct Remark {
     pub len: u8,

@@ -88,7 +88,7 @@ pub(crate) fn of_kind(answer: Result<u32, Refusal>, edit: CellChange) -> Result<
     answer.map_err(|refusal| kind_fault(edit.position, edit.column, refusal))
 }
 
-// A text of at most 24 bytes, as a remark.
+// A text of at most 24 bytes, as a remark. Not a `TryFrom`: no frame has a longer text, so there is nothing to refuse.
 pub(crate) fn remark(words: &[u8]) -> Remark
     requires { length words.now ≤ 24 }
     ensures { text result ≡ words.now }

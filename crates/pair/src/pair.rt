@@ -17,6 +17,8 @@ mod trying;
 mod writing;
 
 // A new record takes `blank`, the pattern that the pair was opened with, reset; the sheet has at most `size` lines.
+// Records and links are two lists, though each record has one link: the caller lends a table of each. No `impl Model`: opening
+// and refusals promise something of the slots past the lists too, which a view of the documents would forget.
 #[derive(Drop)]
 pub struct Pair<'a, R> {
     size: usize,
