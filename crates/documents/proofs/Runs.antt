@@ -35,8 +35,8 @@ use Rattle.documents.proofs.Steps.{given_is, step, change_across, change_own, ch
 -- every byte of real bytes fits
 bytes_fit : (bytes : List ℕ) → Bytes bytes → (k : ℕ) → FitsWidth w8 (byte bytes k)
 bytes_fit [] a k = record { fits = omega arith }
-bytes_fit (b ∷ bytes) a zero = record { fits = omega (arith, a 0 0) }
-bytes_fit (b ∷ bytes) a (suc k) = bytes_fit bytes (λ n d lt. a (suc n) d (omega arith)) k
+bytes_fit (b ∷ bytes) a zero = record { fits = omega (arith, a.0) }
+bytes_fit (b ∷ bytes) a (suc k) = bytes_fit bytes a.1 k
 
 -- where real bytes say a change of a cell, other real bytes say any plain change of a kind there
 sayable_there : (bytes : List ℕ) (s : Side) (p c : ℕ) (e f : Change) → Bytes bytes → frame bytes ≡ Ok (s, change p c e) →

@@ -1,6 +1,6 @@
 -- What a pair keeps over every list of attempts.
 use Rattle.std.specs.Prelude.{◌≡◌, ℕ, ◌<◌, ◌≤◌, ◌⊎◌, ◌↔◌, List, [], length, Some, Ok, Err, slice_index, slice_index_or}
-use Rattle.std.specs.List.{All}
+use Rattle.std.specs.List.{AllByRecursion}
 use Rattle.kinds.specs.Kinds.{fold}
 use Rattle.kinds.specs.declared.change.Change.{Change}
 use Rattle.kinds.specs.declared.kind.Kind.{Kind}
@@ -17,7 +17,7 @@ use Rattle.documents.specs.Attempts.{State, opened, document, kinds, attempt, an
 
 -- real bytes, each below 256
 abbrev pub Bytes : List ℕ → Type 0
-Bytes bytes = All (λ b. b < 256) bytes
+Bytes bytes = AllByRecursion (λ b. b < 256) bytes
 
 -- the rows of a side's records, in their order
 abbrev pub rows : {R : Type 0} → Side → State R → List (List ℕ)
