@@ -1,5 +1,6 @@
-// Runs of a pair over the supplied row of links.
+// Worked cases, and runs of a pair over the supplied row of links.
 #![tactic(auto)]
 
 #[cfg(test)]
 mod tests;
+pub mod worked;
