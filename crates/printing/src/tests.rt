@@ -23,6 +23,7 @@ fn remark(len: u8) -> Line {
     })
 }
 
+// Each line of a report, worked by hand.
 #[test]
 fn each_line(rt: HostRuntime) {
     let mut buffer = DOTS;
