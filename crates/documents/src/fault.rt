@@ -6,7 +6,7 @@ ghost use Rattle.documents.specs.Faults.{fault_number, fault_position, fault_col
 use frames::refusal::FrameRefusal;
 
 // Positions are the frame's own; of a move, the first bad one.
-#[derive(Clone, Copy)]
+#[derive(Clone, Copy, PartialEq, Eq, Debug)]
 pub enum Fault {
     // The bytes are not a frame.
     NotAFrame(FrameRefusal),

@@ -6,7 +6,7 @@ ghost use Rattle.playback.specs.Causes.{cause_number, cause_position, cause_colu
 use documents::fault::Fault;
 use frames::refusal::LineRefusal;
 
-#[derive(Clone, Copy)]
+#[derive(Clone, Copy, PartialEq, Eq, Debug)]
 pub enum Cause {
     // The line's number is above 1,000,000.
     TooManyLines,
@@ -17,7 +17,7 @@ pub enum Cause {
 }
 
 // A refusal with its whole path: the line, and in it the position and the column.
-#[derive(Clone, Copy)]
+#[derive(Clone, Copy, PartialEq, Eq, Debug)]
 pub struct LineFault {
     pub line: u64,
     pub cause: Cause,
