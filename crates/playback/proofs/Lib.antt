@@ -1,2 +1,3 @@
 mod Counting
 mod Outcomes
+mod Reading

@@ -1,3 +1,5 @@
 pub mod Causes
 pub mod Days
+pub mod Readers
+pub mod Reports
 pub mod States
