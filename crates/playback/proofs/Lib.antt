@@ -1,3 +1,4 @@
 mod Counting
 mod Outcomes
 mod Reading
+mod Texts

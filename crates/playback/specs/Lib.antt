@@ -1,5 +1,6 @@
 pub mod Causes
 pub mod Days
+pub mod Feedings
 pub mod Readers
 pub mod Reports
 pub mod States
