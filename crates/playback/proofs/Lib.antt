@@ -1,8 +1,9 @@
 mod Counting
 mod Outcomes
-mod Pieces
+mod Fronts
 mod Reading
 mod Reported
 mod Takings
 mod Texts
 mod Writings
+mod Whole

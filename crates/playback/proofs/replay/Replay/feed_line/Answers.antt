@@ -3,7 +3,7 @@ use Rattle.logs.specs.Feeding.{midst}
 use Rattle.playback.specs.Days.{next}
 use Rattle.playback.specs.Readers.{report, reader}
 use Rattle.playback.specs.States.{day}
-use Rattle.playback.proofs.Pieces.{all_fed, all_said, line_fed, line_said, kept_short}
+use Rattle.playback.proofs.Fronts.{all_fed, all_said, line_fed, line_said, kept_short}
 use Rattle.playback.proofs.Reading.{reads81}
 use Rattle.playback.proofs.Writings.{written_as}
 use Rattle.playback.proofs.replay.Replay.feed_line.Goals as goal
