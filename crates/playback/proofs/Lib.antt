@@ -4,6 +4,5 @@ mod Fronts
 mod Reading
 mod Reported
 mod Takings
-mod Texts
 mod Writings
 mod Whole

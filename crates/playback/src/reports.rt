@@ -11,7 +11,6 @@ use itoa::Buffer;
 pub const SHORTEST_REPORT: usize = 64;
 
 // The line of a refusal.
-#[tactic(auto, using(crate::proofs::Texts::short_line, crate::proofs::Texts::short_number))]
 fn refusal_line(fault: LineFault) -> ArrayVec<u8, SHORTEST_REPORT>
     ensures { result.items ≡ refusal_line fault.line (cause_number fault.cause) }
 {
