@@ -7,7 +7,7 @@ use frames::refusal::LineRefusal;
 use logs::partial::PartialLine;
 
 // Reads the line as if all of it had been kept, and counts its bytes, none for a line that is skipped.
-#[tactic(auto, using(crate::proofs::Cut::cut))]
+#[tactic(auto, using(frames::proofs::Cut::cut))]
 pub fn read_partial(line: &PartialLine, buffer: &mut [u8]) -> Result<Option<usize>, LineRefusal>
     ensures whole { ReadAs line.now buffer.old buffer.new result }
     ensures few { Few result }

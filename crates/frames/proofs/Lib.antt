@@ -2,3 +2,4 @@ mod Digits
 mod Readings
 pub mod Bounds
 pub mod Sayings
+pub mod Cut

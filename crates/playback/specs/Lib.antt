@@ -1,3 +1,7 @@
 pub mod Causes
 pub mod Days
+pub mod Feedings
+pub mod Pieces
+pub mod Readers
+pub mod Reports
 pub mod States

@@ -2,4 +2,6 @@
 #![tactic(auto)]
 
 pub mod fault;
+pub mod laws;
 pub mod replay;
+mod reports;

@@ -1,9 +1,10 @@
 // A replay: a pair, the line that has begun, and the counts.
-ghost use Rattle.std.specs.Prelude.{◌+◌, ◌≤◌};
+ghost use Rattle.std.specs.Prelude.{◌+◌, ◌≤◌, length};
 
 use logs::partial::PartialLine;
 use pair::pair::Pair;
 
+pub mod feeding;
 mod playing;
 
 // Counts the lines so far, and of the frames among them those that were accepted and those that were refused.
@@ -16,4 +17,5 @@ pub struct Replay<'p, 'a, R> {
     refused: u64,
     ghost few: { lines ≤ 1000001 },
     ghost counted: { accepted + refused ≤ lines },
+    ghost short: { length start ≤ 81 },
 }

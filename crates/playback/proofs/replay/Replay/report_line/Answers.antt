@@ -1,0 +1,22 @@
+use Rattle.std.proofs.Common.{sym, refl}
+use Rattle.playback.proofs.Reported.{accepted_said, refused_said}
+use Rattle.playback.proofs.Writings.{written_as}
+use Rattle.playback.proofs.replay.Replay.report_line.Goals as goal
+
+pub returns-in-Ok : goal.returns-in-Ok
+returns-in-Ok g c =
+    let none = accepted_said g.R.Rows.columns c.args.self.now c.args.line.now (sym c.if-has_ended.ensures) c.play_line.new.self c.in-Ok.field-0 c.in-Ok.ensures in
+    record {
+      leaves = c.play_line.ensures.leaves;
+      stays = c.play_line.ensures.stays;
+      reports = written_as _ _ _ _ _ none (record { counts = refl; writes = refl });
+    }
+
+pub returns-in-Err : goal.returns-in-Err
+returns-in-Err g c =
+    let is = refused_said g.R.Rows.columns c.args.self.now c.args.line.now (sym c.if-has_ended.ensures) c.play_line.new.self _ c.in-Err.ensures in
+    record {
+      leaves = c.play_line.ensures.leaves;
+      stays = c.play_line.ensures.stays;
+      reports = written_as _ _ _ _ _ is c.write_refusal.ensures;
+    }

@@ -1,0 +1,13 @@
+// The law of feeding a log, as what a function that does nothing ensures.
+ghost use Rattle.std.specs.Prelude.{◌≡◌, ℕ, List};
+ghost use Rattle.std.specs.List.{concat};
+ghost use Rattle.playback.specs.Days.{Day};
+ghost use Rattle.playback.specs.Pieces.{AsItsLines};
+
+use links::rows::Rows;
+
+// Ensures, for every row of links, every day and every log, that however the log is cut into pieces, feeding them one after the
+// other comes to what its lines do one by one, with the same reports.
+pub fn feeding_in_pieces<R: Rows>()
+    ensures { (d : Day R) (log : List ℕ) (pieces : List (List ℕ)) → concat pieces ≡ log → AsItsLines R.Rows.columns d log pieces }
+{}
