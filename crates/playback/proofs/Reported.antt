@@ -10,7 +10,7 @@ use Rattle.playback.specs.declared.replay.Replay.{Replay}
 use Rattle.playback.specs.Causes.{cause_number}
 use Rattle.playback.specs.Days.{ended, outcome, answer, next, counted, number}
 use Rattle.playback.specs.Readers.{reported, report}
-use Rattle.playback.specs.Reports.{refusal_line}
+use Rattle.printing.specs.Texts.{refusal_line}
 use Rattle.playback.specs.States.{day, PlaysLine}
 
 -- an outcome that is answered by no refusal is not reported

@@ -1,14 +1,22 @@
 -- Texts written to a report one after the other.
-use Rattle.std.proofs.Common.{◌≡◌, ℕ, ◌+◌, ◌-◌, ◌≤◌, List, ◌++◌, length, take, drop, sym, ap, subst, ◌∙◌, append_assoc, append-nil, length-append, length-drop, arith}
+use Rattle.std.proofs.Common.{◌≡◌, ℕ, ◌+◌, ◌-◌, ◌≤◌, List, ◌++◌, length, take, drop, Ok, Result, sym, ap, subst, ◌∙◌, append_assoc, append-nil, length-append, length-drop, arith}
 use borrow.Rule.Slice.PartMut.{put_mid}
 use Rattle.std.proofs.Math.ListN.{drop_of_length-le}
 use Rattle.std.proofs.Math.Seq.{take-append_seam, drop-append_seam}
 use Rattle.std.proofs.lemmas.List.{drop-drop}
+use Rattle.printing.specs.declared.refusal.PrintRefusal.{PrintRefusal}
+use Rattle.printing.specs.Printing.{Prints, Outcome}
 use Rattle.playback.specs.Reports.{Written}
 
 -- an equal text is written too
 pub written_as : (text other before after : List ℕ) (count : ℕ) → text ≡ other → Written text before count after → Written other before count after
 written_as text other before after count is w = subst (λ l. Written l before count after) is w
+
+-- what is printed is written
+pub printed_is : (text before after : List ℕ) (r : Result ℕ PrintRefusal) (count : ℕ) → Prints text before after r → r ≡ Ok count → Written text before count after
+printed_is text before after r count p ok =
+    let o = subst (Outcome text before after) ok p.outcome in
+    record { counts = o.1; writes = o.2 }
 
 -- a second text behind the first
 pub written_on : (first second before middle rest : List ℕ) (m n : ℕ) → Written first before m middle → Written second (drop m middle) n rest →

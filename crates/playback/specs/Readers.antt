@@ -7,7 +7,7 @@ use Rattle.logs.specs.Feeding.{Reader}
 use Rattle.playback.specs.declared.fault.Cause.{Cause}
 use Rattle.playback.specs.Causes.{cause_number}
 use Rattle.playback.specs.Days.{Day, ended, outcome, next, number}
-use Rattle.playback.specs.Reports.{refusal_line}
+use Rattle.printing.specs.Texts.{refusal_line}
 
 -- what is reported of the line with a number: a refusal, and nothing else
 abbrev pub reported : {R : Type 0} → ℕ → Result (Option (Edit × State R)) Cause → List ℕ

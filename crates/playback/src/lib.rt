@@ -4,4 +4,3 @@
 pub mod fault;
 pub mod laws;
 pub mod replay;
-mod reports;

@@ -3,11 +3,14 @@ ghost use Rattle.std.specs.Prelude.{ℕ, ◌<◌, ◌≤◌, length};
 ghost use Rattle.playback.specs.Feedings.{ReportsLine, EndsLine, Takes, Feeds, Finishes};
 
 use crate::replay::Replay;
-use crate::reports::{SHORTEST_REPORT, write_refusal};
 use links::rows::Rows;
 use logs::ends::line_end;
 use logs::partial::PartialLine;
+use printing::lines::print_refusal;
 use std::mem;
+
+// The fewest bytes of a report that a refusal is written to.
+const SHORTEST_REPORT: usize = 64;
 
 // How many bytes of a piece were taken, and how many bytes were written to the report's front.
 #[derive(Clone, Copy, PartialEq, Eq, Debug)]
@@ -27,7 +30,7 @@ impl<'p, 'a, R: Rows> Replay<'p, 'a, R> {
         }
         match self.play_line(line) {
             Ok(_) => 0,
-            Err(fault) => write_refusal(fault, report),
+            Err(fault) => print_refusal(fault.line, fault.number(), report).unwrap(),
         }
     }
 

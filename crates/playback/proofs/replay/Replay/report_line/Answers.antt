@@ -1,6 +1,7 @@
-use Rattle.std.proofs.Common.{sym, refl}
+use Rattle.std.proofs.Common.{sym, refl, ap, ◌∙◌}
+use Rattle.printing.specs.Texts.{refusal_line}
 use Rattle.playback.proofs.Reported.{accepted_said, refused_said}
-use Rattle.playback.proofs.Writings.{written_as}
+use Rattle.playback.proofs.Writings.{written_as, printed_is}
 use Rattle.playback.proofs.replay.Replay.report_line.Goals as goal
 
 pub returns-in-Ok : goal.returns-in-Ok
@@ -18,5 +19,5 @@ returns-in-Err g c =
     record {
       leaves = c.play_line.ensures.leaves;
       stays = c.play_line.ensures.stays;
-      reports = written_as _ _ _ _ _ is c.write_refusal.ensures;
+      reports = written_as _ _ _ _ _ (ap (refusal_line c.in-Err.fault.line) c.number.ensures ∙ is) (printed_is _ _ _ _ _ c.print_refusal.ensures c.unwrap.ensures);
     }
