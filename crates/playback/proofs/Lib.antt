@@ -1,4 +1,5 @@
 mod Counting
+mod Items
 mod Outcomes
 mod Fronts
 mod Reading

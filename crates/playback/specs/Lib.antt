@@ -5,3 +5,4 @@ pub mod Pieces
 pub mod Readers
 pub mod Reports
 pub mod States
+pub mod Printed

@@ -5,6 +5,8 @@ ghost use Rattle.printing.specs.Printing.{print_number};
 // The reason, with its number.
 #[derive(Clone, Copy, PartialEq, Eq, Debug)]
 pub enum PrintRefusal {
+    // What is printed has no line at the position.
+    NoSuchLine = 5,
     // The buffer is shorter than 64 bytes.
     ShortBuffer = 12,
 }
