@@ -27,7 +27,7 @@ impl Counts {
         self.lines() + 1
     }
 
-    // The lines that are frames.
+    // The frames that were accepted.
     pub fn operations(&self) -> u64
         ensures { result ≡ self.now.sheet + self.now.table }
     {

@@ -1,9 +1,13 @@
-// Frames and refusals in plain words.
+// Frames, refusals and faults in plain words.
+use documents::fault::Fault;
 use frames::frame::{Frame, Operation};
 use frames::refusal::{FrameRefusal, LineRefusal};
 use kinds::change::Change;
 use kinds::side::Side;
 use std::fmt;
+
+// The last column of a record.
+const LAST_COLUMN: u8 = 3;
 
 // A value that is shown in words.
 #[derive(Clone, Copy)]
@@ -89,5 +93,41 @@ impl fmt::Display for Words<FrameRefusal> {
             FrameRefusal::UnknownChange => "the change letter is none of K, A, S and F",
             FrameRefusal::KeepWithOperand => "a keep has an operand that is not 0",
         })
+    }
+}
+
+// The reason of a fault. A change above the last column has the number of a change that is not of its column's kind.
+fn write_reason<W: fmt::Write>(fault: Fault, f: &mut fmt::Formatter<W>) -> fmt::Result {
+    match fault {
+        Fault::NotAFrame(refusal) => {
+            let reason = Words(refusal);
+            write!(f, "not a frame, {reason}")
+        }
+        Fault::NotInDocument { .. } => f.write_str("the position is not in the document"),
+        Fault::SheetFull { .. } => f.write_str("the sheet is full"),
+        Fault::NotARecord { .. } => f.write_str("the line is a remark, which has no columns"),
+        Fault::NotOfKind { column, .. } if column > LAST_COLUMN => {
+            f.write_str("there is no such column")
+        }
+        Fault::NotOfKind { .. } => f.write_str("the change is not of the column's kind"),
+        Fault::DoesNotApply { .. } => f.write_str("the change does not apply to the value"),
+        Fault::NoTranslation { .. } => f.write_str("the link has no translation for the change"),
+    }
+}
+
+// A fault with its number, its path and its reason.
+impl fmt::Display for Words<Fault> {
+    fn fmt<W: fmt::Write>(&self, f: &mut fmt::Formatter<W>) -> fmt::Result {
+        let fault = self.0;
+        let code = fault.number();
+        write!(f, "refused ({code})")?;
+        if let Some(position) = fault.position() {
+            write!(f, " at {position}")?;
+        }
+        if let Some(column) = fault.column() {
+            write!(f, ", column {column}")?;
+        }
+        f.write_str(": ")?;
+        write_reason(fault, f)
     }
 }
