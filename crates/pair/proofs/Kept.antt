@@ -1,12 +1,13 @@
 -- What an edit of the three lists keeps, and the state that it makes.
-use Rattle.std.proofs.Common.{◌≡◌, ℕ, ◌+◌, ◌<◌, ◌≤◌, false, List, length, set, Result, sym, refl, ap, ◌∙◌, arith, length-set}
+use Rattle.std.proofs.Common.{◌≡◌, ℕ, ◌+◌, ◌<◌, ◌≤◌, false, ◌⊎◌, List, ◌∷◌, length, take, drop, set, Result, sym, refl, ap, ◌∙◌, subst, inl, inr, arith, length-set, get_or-set_same}
 use lib.ListN.{length-map}
-use Rattle.std.specs.List.{insert, remove}
+use Rattle.std.specs.List.{ContainsAt, AllByRecursion, insert, remove}
 use Rattle.std.proofs.lemmas.List.Edits.{length-insert, length-remove}
+use Rattle.std.proofs.ByRecursion.{All-weaker, all-has, all_has_itself, has_get_or, has_append_right}
 use Rattle.slots.specs.declared.list.SlotList.{SlotList}
 use Rattle.slots.specs.declared.refusal.Refusal.{Refusal}
-use Rattle.slots.specs.Slots.{items, room, Edited as ListEdited, Inserts, Sets, Removes, Moves}
-use Rattle.slots.proofs.Slots.{sets_surely, inserts_surely, removes_surely, moves_surely, moved_is as slots_moved_is}
+use Rattle.slots.specs.Slots.{table, items, room, Among, Inserts, Sets, Removes, Moves}
+use Rattle.slots.proofs.Slots.{all_among, sets_among, inserts_among, removes_among, moves_among, sets_surely, inserts_surely, removes_surely, moves_surely, moved_is as slots_moved_is}
 use Rattle.documents.specs.declared.line.Line.{Line as StoredLine}
 use Rattle.documents.specs.declared.line.Remark.{Remark as Noted}
 use Rattle.documents.specs.declared.line.Line.TheVariants.{Record, Remark}
@@ -18,47 +19,74 @@ use Rattle.documents.proofs.Finding.{sheet_inserted, sheet_set, sheet_removed, s
 use Rattle.pair.specs.declared.pair.Pair.{Pair}
 use Rattle.pair.specs.declared.pair.places.Place.{Place}
 use Rattle.pair.specs.Written.{text, written}
-use Rattle.pair.specs.State.{state}
+use Rattle.pair.specs.State.{state, SlotsFrom}
 use Rattle.pair.specs.Places.{StandsAt, OpensAt, EndsAt}
 use Rattle.pair.specs.Edits.{with_record, with_remark, with_rows, without_record, without_remark, moved_record, moved_remark}
 
--- a list that holds these items, with as much room as before
+-- a list that holds these items, with as much room as before, and in its slots nothing else that is new
 record Holds {X : Type 0} (s t : SlotList X) (xs : List X) : Type 0 where
   items_are : items t ≡ xs
   same_room : room t ≡ room s
+  slots_from : SlotsFrom s t
 
-holds : {X : Type 0} (s t : SlotList X) (xs source : List X) → ListEdited s xs source t → Holds s t xs
-holds s t xs source e = record { items_are = e.items_are; same_room = e.same_room }
+module _ {X : Type 0} (s t : SlotList X) where
+  abbrev Known : X → Type 0
+  Known x = ContainsAt (items t) x ⊎ ContainsAt (table s) x
 
-inserts_hold : {X U : Type 0} (s t : SlotList X) (at : ℕ) (x : X) (r : Result U Refusal) → at ≤ length (items s) → length (items s) < room s → Inserts s at x r t → Holds s t (insert (items s) at x)
-inserts_hold s t at x r le lt h = holds s t _ _ (inserts_surely s t at x r le lt h)
+  known_before : AllByRecursion Known (table s)
+  known_before = All-weaker (ContainsAt (table s)) Known (λ x. inr) (table s) (all_has_itself (table s))
 
-sets_hold : {X U : Type 0} (s t : SlotList X) (at : ℕ) (x : X) (r : Result U Refusal) → at < length (items s) → Sets s at x r t → Holds s t (set (items s) at x)
-sets_hold s t at x r lt h = holds s t _ _ (sets_surely s t at x r lt h)
+  -- where an item is put in
+  from_new : (x : X) → ContainsAt (items t) x → Among (x ∷ table s) (table t) → SlotsFrom s t
+  from_new x new among y = all-has Known (table t) y (all_among Known (x ∷ table s) (table t) among (inl new, known_before))
 
-removes_hold : {X : Type 0} (s t : SlotList X) (at : ℕ) (r : Result X Refusal) → at < length (items s) → Removes s at r t → Holds s t (remove (items s) at)
-removes_hold s t at r lt h = holds s t _ _ (removes_surely s t at r lt h)
+  from_slots : Among (table s) (table t) → SlotsFrom s t
+  from_slots among y = all-has Known (table t) y (all_among Known (table s) (table t) among known_before)
 
-moves_hold : {X U : Type 0} (s t : SlotList X) (p q : ℕ) (r : Result U Refusal) → p < length (items s) → q < length (items s) → Moves s p q r t → Holds s t (moved (items s) p q)
-moves_hold s t p q r lp lq h =
-    let x = item_there (items s) p lp in
-    let k = moves_surely s t p q r lp lq h in
-    record {
-      items_are = k.items_are ∙ slots_moved_is (items s) p q x.0 lp ∙ ap (λ y. insert (remove (items s) p) q y) (item_get_or (items s) p x.0 x.0 x.1) ∙ sym (moved_is (items s) p q x.0 x.1);
-      same_room = k.same_room;
-    }
+  inserts_hold : {U : Type 0} (at : ℕ) (x : X) (r : Result U Refusal) → at ≤ length (items s) → length (items s) < room s → Inserts s at x r t → Holds s t (insert (items s) at x)
+  inserts_hold at x r le lt h =
+      let e = inserts_surely s t at x r le lt h in
+      record {
+        items_are = e.items_are;
+        same_room = e.same_room;
+        slots_from = from_new x (subst (λ xs. ContainsAt xs x) (sym e.items_are) (has_append_right (take at (items s)) (x ∷ drop at (items s)) x (all_has_itself (x ∷ drop at (items s))).0)) (inserts_among s t at x r h);
+      }
+
+  sets_hold : {U : Type 0} (at : ℕ) (x : X) (r : Result U Refusal) → at < length (items s) → Sets s at x r t → Holds s t (set (items s) at x)
+  sets_hold at x r lt h =
+      let e = sets_surely s t at x r lt h in
+      let there : ContainsAt (set (items s) at x) x = subst (ContainsAt (set (items s) at x)) (get_or-set_same (items s) at x x lt) (has_get_or (set (items s) at x) at x (omega (arith, length-set (items s) at x))) in
+      record { items_are = e.items_are; same_room = e.same_room; slots_from = from_new x (subst (λ xs. ContainsAt xs x) (sym e.items_are) there) (sets_among s t at x r h) }
+
+  removes_hold : (at : ℕ) (r : Result X Refusal) → at < length (items s) → Removes s at r t → Holds s t (remove (items s) at)
+  removes_hold at r lt h =
+      let e = removes_surely s t at r lt h in
+      record { items_are = e.items_are; same_room = e.same_room; slots_from = from_slots (removes_among s t at r h) }
+
+  moves_hold : {U : Type 0} (p q : ℕ) (r : Result U Refusal) → p < length (items s) → q < length (items s) → Moves s p q r t → Holds s t (moved (items s) p q)
+  moves_hold p q r lp lq h =
+      let x = item_there (items s) p lp in
+      let k = moves_surely s t p q r lp lq h in
+      record {
+        items_are = k.items_are ∙ slots_moved_is (items s) p q x.0 lp ∙ ap (λ y. insert (remove (items s) p) q y) (item_get_or (items s) p x.0 x.0 x.1) ∙ sym (moved_is (items s) p q x.0 x.1);
+        same_room = k.same_room;
+        slots_from = from_slots (moves_among s t p q r h);
+      }
 
 held : {X : Type 0} (s : SlotList X) → Holds s s (items s)
-held s = record { items_are = refl; same_room = refl }
+held s = record { items_are = refl; same_room = refl; slots_from = λ x. inr }
 
--- The pair s with other lists: what it keeps, and the state that it is then in.
+-- The pair s with other lists: what it keeps, the state that it is then in, and where its row links come from.
 pub record Edited {R : Type 0} (s : Pair R) (ls : SlotList StoredLine) (rs : SlotList (List ℕ)) (ks : SlotList R) (d : State R) : Type 0 where
   pub kept : record {
     counted : length (records_of (written (items ls))) ≡ length (items rs);
     linked : length (items ks) ≡ length (items rs);
     roomy : (s.size ≤ room ls) × (s.size ≤ room rs) × (s.size ≤ room ks);
   }
-  pub state_is : ◌≡◌ {A = State R} (record { size = s.size; blank = s.blank; lines = written (items ls); records = items rs; links = items ks }) d
+  pub results : record {
+    makes : ◌≡◌ {A = State R} (record { size = s.size; blank = s.blank; lines = written (items ls); records = items rs; links = items ks }) d;
+    links_from : SlotsFrom s.links ks;
+  }
 
 -- a record that stands in the pair is in each of its lists
 module _ {R : Type 0} (s : Pair R) (at : Place) (st : StandsAt at (state s)) where
@@ -82,7 +110,7 @@ module _ {R : Type 0} (s : Pair R) (ls : SlotList StoredLine) (rs : SlotList (Li
           linked = ap length hk.items_are ∙ f ∙ sym (ap length hr.items_are);
           roomy = (omega (arith, hl.same_room, s.roomy.0), omega (arith, hr.same_room, s.roomy.1), omega (arith, hk.same_room, s.roomy.2));
         };
-        state_is = same_state _ _ refl refl at hr.items_are hk.items_are;
+        results = record { makes = same_state _ _ refl refl at hr.items_are hk.items_are; links_from = hk.slots_from };
       }
 
   pub added : {U V W : Type 0} (at : Place) (a : Result U Refusal) (b : Result V Refusal) (c : Result W Refusal) → OpensAt at (state s) → length (state s).lines < s.size →

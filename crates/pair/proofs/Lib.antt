@@ -1,3 +1,4 @@
 mod Kept
+mod Builds
 mod Trying
 mod Playing

@@ -1,6 +1,9 @@
 -- The state of a pair, and what a call of it gives.
-use Rattle.std.specs.Prelude.{◌≡◌, ℕ, min, List, length, Ok, Err, Result}
-use Rattle.slots.specs.Slots.{items}
+use Rattle.std.specs.Prelude.{◌≡◌, ℕ, min, ◌⊎◌, List, length, Ok, Err, Result}
+use Rattle.std.specs.List.{AllByRecursion, ContainsAt}
+use Rattle.slots.specs.declared.list.SlotList.{SlotList}
+use Rattle.slots.specs.Slots.{table, items}
+use Rattle.links.specs.Columns.{Columns}
 use Rattle.frames.specs.declared.frame.Operation.{Operation}
 use Rattle.frames.specs.Edits.{Edit, edit}
 use Rattle.documents.specs.declared.fault.Fault.{Fault}
@@ -27,6 +30,14 @@ abbrev pub said : Result Operation Fault → Result Edit Fault
 said (Ok operation) = Ok (edit operation)
 said (Err f) = Err f
 
+-- every row-link slot, those past the records too, has the build of the row that a new record takes
+abbrev pub OneBuild : {R : Type 0} → Columns R → Pair R → Type 0
+OneBuild row s = AllByRecursion (λ r. row.fresh r ≡ row.fresh s.blank) (table s.links)
+
+-- what a slot of t holds is an item of t, or a slot of s held it
+abbrev pub SlotsFrom : {X : Type 0} → SlotList X → SlotList X → Type 0
+SlotsFrom {X} s t = (x : X) → ContainsAt (table t) x → ContainsAt (items t) x ⊎ ContainsAt (table s) x
+
 -- nothing changed, in the slots past the lists too
 pub record Same {R : Type 0} (s t : Pair R) : Type 0 where
   pub same_size : t.size ≡ s.size
@@ -40,8 +51,9 @@ abbrev pub Untouched : {R X E : Type 0} → Pair R → Result X E → Pair R →
 Untouched s (Ok _) t = Unit {0}
 Untouched s (Err _) t = Same s t
 
--- A call is this attempt: its answer, the state after it, and of a refusal that nothing changed.
+-- A call is this attempt: its answer, the state after it, of a refusal that nothing changed, and where the row links come from.
 pub record Plays {R : Type 0} (attempt : Result (Edit × State R) Fault) (s : Pair R) (r : Result Operation Fault) (t : Pair R) : Type 0 where
   pub answers : said r ≡ answer attempt
   pub leaves : state t ≡ state_then (state s) attempt
   pub untouched : Untouched s r t
+  pub links_from : SlotsFrom s.links t.links

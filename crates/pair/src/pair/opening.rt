@@ -3,7 +3,7 @@ ghost use Rattle.std.specs.Prelude.{◌≡◌, length, replicate};
 ghost use Rattle.slots.specs.Slots.{table};
 ghost use Rattle.documents.specs.Attempts.{opened};
 ghost use Rattle.documents.specs.Promise.{Keeps};
-ghost use Rattle.pair.specs.State.{state, least};
+ghost use Rattle.pair.specs.State.{state, least, OneBuild};
 
 use crate::pair::Pair;
 use documents::line::Line;
@@ -24,6 +24,8 @@ impl<'a, R: Rows> Pair<'a, R> {
     ) -> Pair<'a, R>
         ensures opened { state result ≡ opened R.Rows.columns (least lines.old records.old links.old) pattern }
         ensures reset { table result.links ≡ replicate (length links.old) (R.Rows.columns.fresh pattern) }
+        ensures blank { R.Rows.columns.fresh result.blank ≡ R.Rows.columns.fresh pattern }
+        ensures builds { OneBuild R.Rows.columns result }
         ensures promise { Keeps R.Rows.columns (least lines.old records.old links.old) pattern }
     {
         let slots = lines.len().min(records.len()).min(links.len());

@@ -1,9 +1,10 @@
 // Playing a frame.
+ghost use Rattle.std.specs.Prelude.{◌≡◌};
 ghost use Rattle.kinds.specs.declared.side.Side.TheVariants.{Left, Right};
 ghost use Rattle.frames.specs.Edits.{edit};
 ghost use Rattle.documents.specs.Attempts.{given, attempt};
 ghost use Rattle.pair.specs.Frames.{Short};
-ghost use Rattle.pair.specs.State.{state, Plays};
+ghost use Rattle.pair.specs.State.{state, OneBuild, Plays};
 
 use crate::cells::{CellChange, remark};
 use crate::pair::Pair;
@@ -49,7 +50,9 @@ impl<'a, R: Rows> Pair<'a, R> {
 
     // Plays bytes as a frame, and answers its translation. A refusal leaves everything as it was.
     pub fn play(&mut self, bytes: &[u8]) -> Result<Operation<'static>, Fault>
-        ensures { Plays (attempt R.Rows.columns (state self.old) bytes.now) self.old result self.new }
+        ensures plays { Plays (attempt R.Rows.columns (state self.old) bytes.now) self.old result self.new }
+        ensures stays { (self.new.size ≡ self.old.size) × (self.new.blank ≡ self.old.blank) }
+        ensures builds { OneBuild R.Rows.columns self.old → OneBuild R.Rows.columns self.new }
     {
         let said = Frame::read(bytes)?;
         match said.side {

@@ -5,7 +5,7 @@ ghost use Rattle.documents.specs.Across.{is_record};
 ghost use Rattle.pair.specs.Written.{text};
 ghost use Rattle.pair.specs.Edits.{with_record, with_remark, with_rows, without_record, without_remark, moved_record, moved_remark};
 ghost use Rattle.pair.specs.Places.{StandsAt, OpensAt, EndsAt};
-ghost use Rattle.pair.specs.State.{state};
+ghost use Rattle.pair.specs.State.{state, SlotsFrom};
 
 use crate::pair::Pair;
 use crate::pair::places::Place;
@@ -17,7 +17,8 @@ impl<'a, R: Rows> Pair<'a, R> {
     pub(crate) fn add(&mut self, at: Place)
         requires place { OpensAt at (state self.old) }
         requires room { length (state self.old).lines < self.old.size }
-        ensures { state self.new ≡ with_record at (state self.old) }
+        ensures makes { state self.new ≡ with_record at (state self.old) }
+        ensures links_from { SlotsFrom self.old.links self.new.links }
     {
         let zeros = [0u32; 4];
         let blank = self.blank;
@@ -30,7 +31,8 @@ impl<'a, R: Rows> Pair<'a, R> {
     pub(crate) fn add_remark(&mut self, p: usize, remark: Remark)
         requires place { p ≤ length (state self.old).lines }
         requires room { length (state self.old).lines < self.old.size }
-        ensures { state self.new ≡ with_remark p (text remark) (state self.old) }
+        ensures makes { state self.new ≡ with_remark p (text remark) (state self.old) }
+        ensures links_from { SlotsFrom self.old.links self.new.links }
     {
         let _ = self.lines.insert(p, Line::Remark(remark));
     }
@@ -38,7 +40,8 @@ impl<'a, R: Rows> Pair<'a, R> {
     // Puts other rows and another link in the place of those of the record at a place.
     pub(crate) fn put(&mut self, at: Place, x: [u32; 4], y: [u32; 4], link: R)
         requires { StandsAt at (state self.old) }
-        ensures { state self.new ≡ with_rows at x y link (state self.old) }
+        ensures makes { state self.new ≡ with_rows at x y link (state self.old) }
+        ensures links_from { SlotsFrom self.old.links self.new.links }
     {
         let _ = self.lines.set(at.line, Line::Record(x));
         let _ = self.records.set(at.number, y);
@@ -48,7 +51,8 @@ impl<'a, R: Rows> Pair<'a, R> {
     // Takes out the record at a place.
     pub(crate) fn take_out(&mut self, at: Place)
         requires { StandsAt at (state self.old) }
-        ensures { state self.new ≡ without_record at (state self.old) }
+        ensures makes { state self.new ≡ without_record at (state self.old) }
+        ensures links_from { SlotsFrom self.old.links self.new.links }
     {
         let _ = self.lines.remove(at.line);
         let _ = self.records.remove(at.number);
@@ -59,7 +63,8 @@ impl<'a, R: Rows> Pair<'a, R> {
     pub(crate) fn drop_remark(&mut self, p: usize)
         requires place { p < length (state self.old).lines }
         requires line { is_record (item (state self.old).lines p) ≡ false }
-        ensures { state self.new ≡ without_remark p (state self.old) }
+        ensures makes { state self.new ≡ without_remark p (state self.old) }
+        ensures links_from { SlotsFrom self.old.links self.new.links }
     {
         let _ = self.lines.remove(p);
     }
@@ -68,7 +73,8 @@ impl<'a, R: Rows> Pair<'a, R> {
     pub(crate) fn shift(&mut self, from: Place, to: Place)
         requires from { StandsAt from (state self.old) }
         requires to { EndsAt from to (state self.old) }
-        ensures { state self.new ≡ moved_record from to (state self.old) }
+        ensures makes { state self.new ≡ moved_record from to (state self.old) }
+        ensures links_from { SlotsFrom self.old.links self.new.links }
     {
         let _ = self.lines.move_item(from.line, to.line);
         let _ = self.records.move_item(from.number, to.number);
@@ -80,7 +86,8 @@ impl<'a, R: Rows> Pair<'a, R> {
         requires place { p < length (state self.old).lines }
         requires target { q < length (state self.old).lines }
         requires line { is_record (item (state self.old).lines p) ≡ false }
-        ensures { state self.new ≡ moved_remark p q (state self.old) }
+        ensures makes { state self.new ≡ moved_remark p q (state self.old) }
+        ensures links_from { SlotsFrom self.old.links self.new.links }
     {
         let _ = self.lines.move_item(p, q);
     }

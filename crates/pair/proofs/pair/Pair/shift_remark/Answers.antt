@@ -5,4 +5,4 @@ pub invariant_of-self : goal.invariant_of-self
 invariant_of-self g c = (shifted_remark c.args.self.now _ c.args.p c.requires.place c.requires.line c.args.q _ c.requires.target c.move_item.ensures).kept
 
 pub returns : goal.returns
-returns g c = (shifted_remark c.args.self.now _ c.args.p c.requires.place c.requires.line c.args.q _ c.requires.target c.move_item.ensures).state_is
+returns g c = (shifted_remark c.args.self.now _ c.args.p c.requires.place c.requires.line c.args.q _ c.requires.target c.move_item.ensures).results

@@ -40,7 +40,7 @@ returns-in_err-play g c =
     let s = c.args.self.now in
     let p = err_from_is_err_and c.from_residual-in_err-play.result c.from_residual-in_err-play.ensures.1 in
     let f = frame_is g.R.Rows.columns (day s) c.args.line.now (omega arith) _ c.read_line.new.buffer c.in-Some.count (sym (c.in_ok-count.was ∙ ap Ok c.in-Some.is) ∙ c.read_line.ensures.answers) c.read_line.ensures.writes in
-    let h = c.play.ensures in
+    let h = c.play.ensures.plays in
     rw (p.1, p.2) record {
       answers = frame_refused _ _ f _ (sym (ap said c.in_err-play.was) ∙ h.answers);
       leaves = frame_leaves _ _ f _ (state c.play.new.self) h.leaves;
@@ -54,7 +54,7 @@ pub returns : goal.returns
 returns g c =
     let s = c.args.self.now in
     let f = frame_is g.R.Rows.columns (day s) c.args.line.now (omega arith) _ c.read_line.new.buffer c.in-Some.count (sym (c.in_ok-count.was ∙ ap Ok c.in-Some.is) ∙ c.read_line.ensures.answers) c.read_line.ensures.writes in
-    let h = c.play.ensures in
+    let h = c.play.ensures.plays in
     record {
       answers = frame_accepted _ _ f _ (sym (ap said c.in_ok-play.was) ∙ h.answers);
       leaves = frame_leaves _ _ f _ (state c.play.new.self) h.leaves;
