@@ -56,7 +56,7 @@ fn write_bytes(line: &[u8], buffer: &mut [u8]) -> usize
     pairs.len()
 }
 
-// Reads a line. Its bytes go to the buffer's front, and their count is answered, none for a line that is skipped. Bytes past
+// Reads a line, into a buffer that is the caller's, since nothing here allocates. Its bytes go to the buffer's front, and their count is answered, none for a line that is skipped. Bytes past
 // them stay, and a refusal writes nothing.
 pub fn read_line(line: &[u8], buffer: &mut [u8]) -> Result<Option<usize>, LineRefusal>
     ensures answers { result ≡ answer (line_bytes line.now (length buffer.old)) }

@@ -41,7 +41,7 @@ pub enum FrameRefusal {
 }
 
 impl FrameRefusal {
-    // A match, since discriminants differ from one another.
+    // One number for all; a match, so that a new reason has to choose its own.
     pub fn number(self) -> u8
         ensures { result ≡ frame_number self }
     {

@@ -39,6 +39,8 @@ impl<L: Link, M: Link> Chain<L, M> {
     }
 }
 
+// Carrying to the right and to the left are mirrored: one function for both would match on the side for the order of the links, for
+// the method and for what is put back, and is no plainer.
 impl<L: Link, M: Link> Link for Chain<L, M> {
     ghost lens = { chained L.Link.lens M.Link.lens };
 

@@ -6,7 +6,8 @@ use crate::refusal::CarryRefusal;
 use kinds::change::Change;
 use kinds::kind::Kind;
 
-// Keeps a left value and a right value in agreement: a change of one is carried to a change of the other.
+// Keeps a left value and a right value in agreement: a change of one is carried to a change of the other. A method for each
+// direction, and none with a side, since most links do another thing in each.
 pub trait Link: Copy {
     // The kinds, the agreement and the carrying, as functions of the link.
     ghost lens: { Lens Self };

@@ -8,7 +8,7 @@ use std::marker::Model;
 const KEPT: usize = 81;
 
 // A line that has begun.
-#[derive(Drop)]
+#[derive(Clone, Drop)]
 pub struct PartialLine {
     characters: ArrayVec<u8, KEPT>,
 }
@@ -58,7 +58,7 @@ impl PartialLine {
             .unwrap();
     }
 
-    // Forgets the line.
+    // Forgets the line. Not by the vector's `clear`, which goes over the characters, and was measured to be slower.
     pub fn clear(&mut self)
         ensures { self.new ≡ [] }
     {

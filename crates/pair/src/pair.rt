@@ -18,7 +18,7 @@ mod writing;
 
 // A new record takes `blank`, the pattern that the pair was opened with, reset; the sheet has at most `size` lines.
 // Records and links are two lists, though each record has one link: the caller lends a table of each. No `impl Model`: opening
-// and refusals promise something of the slots past the lists too, which a view of the documents would forget.
+// and refusals promise something of the slots past the lists too, and a view that keeps those is the fields again.
 #[derive(Drop)]
 pub struct Pair<'a, R> {
     size: usize,

@@ -6,7 +6,7 @@ use crate::refusal::Refusal;
 
 /// The items lie in the first slots of the table, and what lies past them is left over.
 // A slice with a length beside it, since the table is the caller's and nothing here allocates. No `impl Model`: clauses speak of
-// the whole table and of its lender too, which a view of the items would forget.
+// the whole table and of its lender too, and a view that keeps both is the fields again.
 #[derive(Drop)]
 pub struct SlotList<'a, T> {
     slots: &'a mut [T],

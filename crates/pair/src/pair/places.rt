@@ -100,7 +100,8 @@ impl<'a, R: Rows> Pair<'a, R> {
         lines.iter().take(p).filter(|line| line.is_record()).count()
     }
 
-    // The position of the record line that has `j` record lines before it, or the end.
+    // The position of the record line that has `j` record lines before it, or the end. Counted down here, since of a `filter` with
+    // `nth` the proof did not close.
     fn line_of(&self, j: usize) -> usize
         ensures value { result ≡ line_of j (state self.now).lines }
         ensures place { result ≡ place_for j (state self.now).lines }

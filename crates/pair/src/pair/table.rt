@@ -1,4 +1,5 @@
-// Operations from the table.
+// Operations from the table. Insertions and changes are those of the sheet with the sides exchanged: one function for both would
+// match on the side for the length, for the place and for the answer, and is no plainer.
 ghost use Rattle.kinds.specs.declared.side.Side.TheVariants.{Right};
 ghost use Rattle.frames.specs.Edits.{insert, delete, move, change};
 ghost use Rattle.documents.specs.Attempts.{given};

@@ -35,7 +35,3 @@ returns-else-k-from g c =
     let st = c.requires.stands in
     let h = one_less s c.args.from c.args.k st c.min.result c.line_of.result (omega arith) (omega (arith, c.requires.target)) c.line_of.ensures.value in
     ends s c.args.from c.args.k st _ c.requires.target (omega (arith, h))
-
-pub overflow_sub-line : goal.overflow_sub-line
-overflow_sub-line g c =
-    omega (arith, one_less c.args.self.now c.args.from c.args.k c.requires.stands c.min.result c.line_of.result (omega arith) (omega (arith, c.requires.target)) c.line_of.ensures.value)
