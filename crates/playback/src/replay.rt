@@ -6,7 +6,7 @@ use pair::pair::Pair;
 
 pub mod feeding;
 mod playing;
-pub mod printing;
+pub mod reporting;
 
 // Counts the lines so far, and of the frames among them those that were accepted and those that were refused.
 #[derive(Drop)]
