@@ -1,30 +1,56 @@
 -- What reads of the lines tell of the sheet, one line after the other, and once a record is taken out.
-use Rattle.std.proofs.Common.{◌≡◌, ℕ, zero, suc, ◌+◌, ◌-◌, ◌<◌, ◌≤◌, true, false, ltb, List, [], ◌∷◌, map, length, get_or, filter, take, drop, set, Some, sym, refl, ap, ◌∙◌, ⊎_elim, add-one, sub-one, arith}
+use Rattle.std.proofs.Common.{◌≡◌, ℕ, zero, suc, ◌+◌, ◌-◌, ◌<◌, ◌≤◌, min, true, false, ltb, List, [], ◌∷◌, map, length, get_or, filter, take, drop, set, Some, None, Option, sym, refl, ap, ◌∙◌, ⊎_elim, add-one, sub-one, arith}
+use lib.ListN.{length-map}
 use Rattle.std.specs.List.{insert, remove}
-use Rattle.std.proofs.lemmas.List.{take-map, drop-map, map-append, map-set}
+use Rattle.std.proofs.lemmas.List.{take_all, take-map, drop-map, map-append, map-set}
 use Rattle.std.proofs.lemmas.List.Edits.{length-remove}
-use Rattle.std.proofs.lemmas.Bool.{ltb-false, cases_Bool}
+use Rattle.std.proofs.lemmas.Bool.{cases_lt, ltb-false, cases_Bool}
 use Rattle.documents.specs.declared.line.Line.{Line as StoredLine}
 use Rattle.documents.specs.declared.line.Line.TheVariants.{Record, Remark}
 use Rattle.documents.specs.Documents.{Line, record_line, remark_line, line, sheet, records_of, records_before, line_of, place_for, item, moved}
 use Rattle.documents.specs.Across.{is_record}
 use Rattle.documents.specs.Attempts.{State}
-use Rattle.documents.proofs.Places.{item_there, item_below, moved_is, moved_nowhere, before_within, records_removed, record_below, before_line_of, line_of_within, at_line_of, place_fits}
+use Rattle.documents.proofs.Places.{item_there, item_below, set_item, moved_is, moved_nowhere, before_within, records_removed, record_below, before_line_of, line_of_within, at_line_of, place_fits}
 
 clash : {P : Type 0} → ◌≡◌ {A = ℕ} 0 1 → P
 clash h = absurd (omega arith)
 
 -- ---- items
 
+pub got : {X : Type 0} (xs : List X) (i : ℕ) (x : X) → i < length xs → x ≡ get_or xs i x → item xs i ≡ Some x
+got [] i x lt e = absurd (omega arith)
+got (y ∷ xs) zero x lt e = ap Some (sym e)
+got (y ∷ xs) (suc i) x lt e = got xs i x (omega arith) e
+
+pub not_got : {X : Type 0} (xs : List X) (i : ℕ) → length xs ≤ i → item xs i ≡ None
+not_got [] i le = refl
+not_got (y ∷ xs) zero le = absurd (omega arith)
+not_got (y ∷ xs) (suc i) le = not_got xs i (omega arith)
+
 pub item_map : {X Y : Type 0} (f : X → Y) (xs : List X) (i : ℕ) (x : X) → item xs i ≡ Some x → item (map f xs) i ≡ Some (f x)
 item_map f [] i x e = clash (cc e)
 item_map f (y ∷ xs) zero x e = let z : y ≡ x = cc e in ap (λ w. Some (f w)) z
 item_map f (y ∷ xs) (suc i) x e = item_map f xs i x e
 
+pub set_got : {X : Type 0} (xs : List X) (i : ℕ) (x : X) → i < length xs → x ≡ get_or xs i x → set xs i x ≡ xs
+set_got xs i x lt e = set_item xs i x (got xs i x lt e)
+
+pub set_past : {X : Type 0} (xs : List X) (i : ℕ) (x : X) → length xs ≤ i → set xs i x ≡ xs
+set_past [] i x le = refl
+set_past (y ∷ xs) zero x le = absurd (omega arith)
+set_past (y ∷ xs) (suc i) x le = ap (λ l. y ∷ l) (set_past xs i x (omega arith))
+
 pub moved_here : {X : Type 0} (xs : List X) (j : ℕ) → j < length xs → moved xs j j ≡ xs
 moved_here xs j lt = let x = item_there xs j lt in moved_nowhere xs j x.0 x.1
 
 -- ---- the sheet that stored lines stand for
+
+-- a stored line that was read is that line of the sheet
+pub line_got : (xs : List StoredLine) (i : ℕ) (x : StoredLine) → i < length xs → x ≡ get_or xs i x → item (sheet xs) i ≡ Some (line x)
+line_got xs i x lt e = item_map line xs i x (got xs i x lt e)
+
+pub no_line : (xs : List StoredLine) (i : ℕ) → length xs ≤ i → item (sheet xs) i ≡ None
+no_line xs i le = not_got (sheet xs) i (omega (arith, length-map xs line))
 
 -- a stored line is a record where that line of the sheet is
 pub record_got : (xs : List StoredLine) (i : ℕ) (d : StoredLine) → i < length xs → is_record (item (sheet xs) i) ≡ is_record (Some (line (get_or xs i d)))
@@ -61,7 +87,35 @@ told_remark (record_line x ∷ ls) zero lt h = clash (cc h)
 told_remark (remark_line t ∷ ls) zero lt h = (t, refl)
 told_remark (l ∷ ls) (suc p) lt h = told_remark ls p (omega arith) h
 
+pub never_remark : (o : Option Line) (t : List ℕ) → o ≡ Some (remark_line t) → is_record o ≡ true → ⊥
+never_remark o t i h = let z : true ≡ false = sym h ∙ ap is_record i in clash (cc z)
+
+pub never_none : (o : Option Line) → o ≡ None → is_record o ≡ true → ⊥
+never_none o i h = let z : true ≡ false = sym h ∙ ap is_record i in clash (cc z)
+
 -- ---- counting the record lines from the start
+
+pub before_record : (ls : List Line) (i : ℕ) → is_record (item ls i) ≡ true → records_before (i + 1) ls ≡ records_before i ls + 1
+before_record [] i h = clash (cc h)
+before_record (record_line x ∷ ls) zero h = refl
+before_record (remark_line t ∷ ls) zero h = clash (cc h)
+before_record (record_line x ∷ ls) (suc i) h = rw add-one (omega (arith, rw add-one at (before_record ls i h)))
+before_record (remark_line t ∷ ls) (suc i) h = rw add-one (rw add-one at (before_record ls i h))
+
+pub before_other : (ls : List Line) (i : ℕ) → is_record (item ls i) ≡ false → records_before (i + 1) ls ≡ records_before i ls
+before_other [] zero h = refl
+before_other [] (suc i) h = rw add-one refl
+before_other (record_line x ∷ ls) zero h = clash (cc h)
+before_other (remark_line t ∷ ls) zero h = refl
+before_other (record_line x ∷ ls) (suc i) h = rw add-one (omega (arith, rw add-one at (before_other ls i h)))
+before_other (remark_line t ∷ ls) (suc i) h = rw add-one (rw add-one at (before_other ls i h))
+
+-- past the end there are no more
+pub before_end : (ls : List Line) (p i : ℕ) → i ≡ min p (length ls) → records_before p ls ≡ records_before i ls
+before_end ls p i e =
+    ⊎_elim (λ (h : p < length ls). let f : i ≡ p = omega arith in rw f refl)
+    (λ (h : length ls ≤ p). let f : length ls ≤ i = omega arith in rw (take_all p ls h, take_all i ls f) refl)
+    (cases_lt p (length ls))
 
 -- the stored lines that are records are as many as the sheet's records
 pub records_counted : (xs : List StoredLine) → length (filter (λ l. is_record (Some (line l))) xs) ≡ length (records_of (sheet xs))

@@ -2,6 +2,7 @@
 use Rattle.std.proofs.Common.{◌≡◌, ℕ, Bool, true, false, cond, eqb, Ok, Err, sym, refl, ap, ◌∙◌, arith}
 use mathlib.Core.Bool.{So-prop}
 use mathlib.Core.HLevel.{is_prop→PathP}
+use Rattle.std.proofs.lemmas.Bool.{eqb-true}
 use Rattle.std.proofs.lemmas.Bool.Decides.{nat_tests}
 use denote.Enum.Bare.{sameb}
 use Rattle.kinds.specs.contracts.kind.Letter.{the_type}
@@ -10,12 +11,16 @@ use Rattle.kinds.specs.declared.kind.Letter.TheVariants.{Amount, Choice, Flags, 
 use Rattle.kinds.specs.declared.kind.Kind.{Kind}
 use Rattle.kinds.specs.declared.refusal.Refusal.TheVariants.{NoSuchKind}
 use Rattle.kinds.specs.Letters.{proper}
-use Rattle.kinds.specs.Kinds.{place, same_kind, tested, new_kind}
+use Rattle.kinds.specs.Kinds.{blank, place, same_kind, tested, new_kind}
 use Rattle.kinds.specs.Laws.{SameOne}
 use Rattle.kinds.proofs.Clash.{clash}
 
 pub kind_same : (k l : Kind) → k.letter ≡ l.letter → k.limit ≡ l.limit → k ≡ l
 kind_same k l p q = λ i. record { letter = p i; limit = q i; proper = is_prop→PathP (λ j. proper (p j) (q j) ≡ true) (λ j. So-prop (proper (p j) (q j))) k.proper l.proper i }
+
+-- the only kind of its letter
+pub blank_only : (k : Kind) → k.letter ≡ Blank → k ≡ blank
+blank_only k p = kind_same k blank p (eqb-true k.limit 0 (sym (ap (λ a. proper a k.limit) p) ∙ k.proper))
 
 -- what is made where the test passes, and where it does not
 tested_kind : (k : Kind) (b : Bool) (p : proper k.letter k.limit ≡ b) → Ok k ≡ tested k.letter k.limit b p
