@@ -1,2 +1,4 @@
 pub mod Logs
+pub mod Begun
+pub mod Partial
 pub mod Feeding

@@ -1,67 +1,75 @@
 // A line that has begun, by its first characters: 81 are enough to see that it has more than 80.
 ghost use Rattle.std.specs.Prelude.{◌≡◌, ◌≤◌, [], ◌++◌, length, take, ◌==◌};
 
-use arrayvec::ArrayVec;
 use std::marker::Model;
 
 // The most characters that are kept.
 const KEPT: usize = 81;
 
-// A line that has begun.
-#[derive(Clone, Drop)]
+// A line that has begun. An array with a length beside it, since it is plain data that is copied, which an `ArrayVec` is not.
+#[derive(Clone, Copy)]
 pub struct PartialLine {
-    characters: ArrayVec<u8, KEPT>,
+    characters: [u8; KEPT],
+    len: usize,
 }
 
-// A contract sees the characters that are kept.
+// A contract sees the characters that are kept, and those left over past them.
 impl Model for PartialLine {
-    ghost use Rattle.std.specs.Prelude.{ℕ, List};
+    ghost use Rattle.logs.specs.Begun.{Begun};
 
-    ghost Value = { List ℕ };
+    ghost Value = { Begun };
 
-    ghost view = { λ line. line.characters.items };
+    ghost use Rattle.logs.specs.Partial.{begun, Within, fields, given_back};
+
+    ghost view = { begun };
+
+    ghost invariant = { Within };
+
+    ghost inverse = { fields };
+
+    ghost inverse_ok = { given_back };
 }
 
 impl PartialLine {
     // A line that has not begun.
     pub fn new() -> PartialLine
-        ensures { result ≡ [] }
+        ensures { result.kept ≡ [] }
     {
         PartialLine {
-            characters: ArrayVec::new(),
+            characters: [0; KEPT],
+            len: 0,
         }
     }
 
     // Says whether the line has not begun.
     pub fn is_empty(&self) -> bool
-        ensures { result ≡ (length self.now == 0) }
+        ensures { result ≡ (length self.now.kept == 0) }
     {
-        self.characters.is_empty()
+        self.len == 0
     }
 
     // The characters that are kept.
     pub fn as_slice(&self) -> &[u8]
-        ensures all { result.now ≡ self.now }
+        ensures all { result.now ≡ self.now.kept }
         ensures few { length result.now ≤ 81 }
     {
-        self.characters.as_slice()
+        &self.characters[..self.len]
     }
 
     // Goes on with more characters of the line.
-    #[tactic(auto, using(crate::proofs::Kept::joined))]
     pub fn extend(&mut self, more: &[u8])
-        ensures { self.new ≡ take 81 (self.old ++ more.now) }
+        ensures { self.new.kept ≡ take 81 (self.old.kept ++ more.now) }
     {
-        let count = self.characters.remaining_capacity().min(more.len());
-        self.characters
-            .try_extend_from_slice(&more[..count])
-            .unwrap();
+        let count = more.len().min(KEPT - self.len);
+        let end = self.len + count;
+        self.characters[self.len..end].copy_from_slice(&more[..count]);
+        self.len = end;
     }
 
-    // Forgets the line. Not by the vector's `clear`, which goes over the characters, and was measured to be slower.
+    // Forgets the line.
     pub fn clear(&mut self)
-        ensures { self.new ≡ [] }
+        ensures { self.new.kept ≡ [] }
     {
-        *self = PartialLine::new();
+        self.len = 0;
     }
 }

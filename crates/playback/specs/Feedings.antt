@@ -17,8 +17,8 @@ pub record ReportsLine {R : Type 0} (row : Columns R) (s : Replay R) (line befor
 
 -- The line that has begun played, and reported if it is refused.
 pub record EndsLine {R : Type 0} (row : Columns R) (s : Replay R) (before : List ℕ) (count : ℕ) (t : Replay R) (after : List ℕ) : Type 0 where
-  pub leaves : reading t ≡ midst (next row (day s) s.start) []
-  pub reports : Written (report row (day s) s.start) before count after
+  pub leaves : reading t ≡ midst (next row (day s) s.start.kept) []
+  pub reports : Written (report row (day s) s.start.kept) before count after
 
 -- Bytes taken from the front of a piece: the reader then, and the reports meanwhile.
 pub record Takes {R : Type 0} (row : Columns R) (s : Replay R) (piece before : List ℕ) (r : Fed) (t : Replay R) (after : List ℕ) : Type 0 where

@@ -17,7 +17,7 @@ day s = record { state = state s.pair.now; lines = s.lines; accepted = s.accepte
 
 -- the day so far, and the line that has begun
 abbrev pub reading : {R : Type 0} → Replay R → Midst (Day R)
-reading s = midst (day s) s.start
+reading s = midst (day s) s.start.kept
 
 -- the translation of an accepted frame, as an edit; a skipped line has none
 abbrev pub translation : Option Operation → Option Edit

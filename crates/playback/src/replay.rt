@@ -18,5 +18,5 @@ pub struct Replay<'p, 'a, R> {
     refused: u64,
     ghost few: { lines ≤ 1000001 },
     ghost counted: { accepted + refused ≤ lines },
-    ghost short: { length start ≤ 81 },
+    ghost short: { length start.kept ≤ 81 },
 }
